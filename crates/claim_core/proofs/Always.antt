@@ -1,29 +1,27 @@
 -- The laws of the claims, after every list of events.
-use Rattle.std.specs.Prelude.{nat_lt, slice_get}
+use Rattle.std.specs.Prelude.{nat_lt}
 use Rattle.std.specs.List.{flat_map}
-use Rattle.std.proofs.Common.{◌≡◌, ℕ, suc, ◌+◌, ◌*◌, ◌<◌, ◌≤◌, min, Bool, true, false, cond, List, [], ◌∷◌, ◌++◌, length, refl, ap, sym, ◌∙◌, arith, Option, Some, None}
+use Rattle.std.proofs.Common.{◌≡◌, ℕ, zero, suc, ◌+◌, ◌-◌, ◌*◌, ◌<◌, ◌≤◌, min, Bool, true, false, List, [], ◌∷◌, ◌++◌, length, refl, ap, sym, ◌∙◌, arith}
 use Rattle.std.proofs.lemmas.Bool.Decides.{nat_tests}
 use Rattle.std.proofs.lemmas.List.{append_assoc, append-nil}
 use Rattle.net_core.proofs.Numbers.{numbers_grow}
 use Rattle.net_core.specs.Network.{numbers_below}
-use Rattle.dta_model.specs.Machine.{Claims, Effect, all_idle, claim_by, effect_of, finish_by, finished, is_finished, may_open, open_by, outcome, outcomes_of, run_machine, step_machine, with_stage}
+use Rattle.dta_model.specs.Machine.{Claims, all_idle, finished, is_finished, outcome, outcomes_of, run_machine, step_machine}
 use Rattle.dta_model.specs.Sound.{IsSound}
 use Rattle.dta_model.specs.Units.{mail_part, node_count, phase_start, step_units, unit_count}
 use Rattle.dta_model.specs.declared.plan.Plan.{Plan}
 use Rattle.dta_model.specs.declared.machine.Event.{Event}
-use Rattle.dta_model.specs.declared.machine.Event.TheVariants as event
-use Rattle.dta_model.specs.declared.machine.Outcome.TheVariants as outcomes
-use Rattle.dta_model.specs.declared.machine.Stage.{Stage}
-use Rattle.dta_model.specs.declared.machine.Stage.TheVariants as stage
 use Rattle.cell_stages.specs.Contents.{away, cell_at, cell_before, mail_at, room_of}
 use Rattle.cell_stages.proofs.TwoStages.{steps_have_two_stages}
-use Rattle.claim_core.specs.Laws.{Always, EarlierAreFinished, HeldWereGiven, IsHeldOnce, LaterAreNot, NumbersRise, OpenAreOfThePhase, PartsAreOfWholeSteps, number_given}
+use Rattle.claim_core.specs.Laws.{Always, EarlierAreFinished, HeldWereGiven, IsHeldOnce, LaterAreNot, NumbersRise, OpenAreOfThePhase, PartsAreOfWholeSteps, numbers_given}
 use Rattle.claim_core.specs.Parts.{done_in, moves, stage_in, stage_of}
+use Rattle.claim_core.specs.Runs.{numbers, run}
 use Rattle.claim_core.specs.Sums.{below}
 use Rattle.claim_core.proofs.Claimed.{finished_le}
-use Rattle.claim_core.proofs.Counts.{drawn_in, held_in, min_high, min_low, none_past}
+use Rattle.claim_core.proofs.Counts.{drawn_in, held_in, min_low, none_past}
 use Rattle.claim_core.proofs.Cuts.{below_cut}
-use Rattle.claim_core.proofs.Events.{Kept, always_kept, in_phase}
+use Rattle.claim_core.proofs.Events.{Kept, always_kept, fits_open}
+use Rattle.claim_core.proofs.Steps.{step_by}
 use Rattle.claim_core.proofs.Phases.{whole_start}
 use Rattle.claim_core.proofs.Parts.{at_place, of_whole_steps, step_cell, step_mail}
 use Rattle.claim_core.proofs.Stages.{others_none}
@@ -43,7 +41,7 @@ module _ (p : Plan) (s : Claims) (k : Kept p s) where
   later u l = is_zero (is_finished p s u) (k.claimed.after u l)
 
   in_the_phase : OpenAreOfThePhase p s
-  in_the_phase w c e = in_phase p s k w c e
+  in_the_phase w a m b e = let f = fits_open p s k w a m b e in (f.2, f.3)
 
   -- where whole steps are finished
   module _ (t : ℕ) (whole : finished p s ≡ t * step_units (node_count p)) where
@@ -111,86 +109,50 @@ pub parts_are_of_whole_steps : Always PartsAreOfWholeSteps
 parts_are_of_whole_steps p workers events = whole_parts p (run_machine p events (all_idle workers)) (always_kept p workers events)
 
 -- numbers rise
-module _ (p : Plan) (s : Claims) where
-  same_numbers : numbers_below (drawn_in p s) ++ [] ≡ numbers_below (drawn_in p s)
-  same_numbers = append-nil (numbers_below (drawn_in p s))
+numbers_more : (g many : ℕ) → numbers_below g ++ run g many ≡ numbers_below (g + many)
+numbers_more g zero =
+    append-nil (numbers_below g) ∙ ap numbers_below (let e : g ≡ g + 0 = omega arith in e)
+numbers_more g (suc many) =
+    sym (append_assoc (numbers_below g) (g ∷ []) (run (suc g) many))
+    ∙ ap (λ xs. xs ++ run (suc g) many) (sym (numbers_grow 0 g g (omega arith)))
+    ∙ numbers_more (suc g) many
+    ∙ ap numbers_below (let e : suc g + many ≡ g + suc many = omega arith in e)
 
-  abbrev given : ℕ → Effect
-  given w = record {
-    claims = record (with_stage s w (stage.Held s.drawn)) { drawn = suc s.drawn };
-    outcome = outcomes.Given s.drawn;
-  }
+numbers_upto : (g g' : ℕ) → g ≤ g' → numbers_below g ++ numbers g g' ≡ numbers_below g'
+numbers_upto g g' le =
+    numbers_more g (g' - g)
+    ∙ ap numbers_below (let e : g + (g' - g) ≡ g' = omega (arith, le) in e)
 
-  abbrev over : ℕ → Effect
-  over w = record {
-    claims = record (with_stage s w stage.Ended) { drawn = suc s.drawn };
-    outcome = outcomes.Over s.drawn;
-  }
+step_gives : (p : Plan) (s : Claims) (e : Event)
+    → numbers_below (drawn_in p s) ++ numbers_given (outcome p s e)
+    ≡ numbers_below (drawn_in p (step_machine p s e))
+step_gives p s =
+    step_by p s
+    (λ _ f. numbers_below (drawn_in p s) ++ numbers_given f.outcome
+    ≡ numbers_below (drawn_in p f.claims))
+    (λ e o none. ap (λ xs. numbers_below (drawn_in p s) ++ xs) none ∙ same)
+    (λ e w many new o _ idle most d. ap (λ xs. numbers_below (drawn_in p s) ++ xs) d.told
+    ∙ numbers_upto (drawn_in p s) (min (s.drawn + many) (unit_count p)) (omega arith))
+    (λ w a b out may. same)
+    (λ w a m b out. same)
+  where
+    same : numbers_below (drawn_in p s) ++ [] ≡ numbers_below (drawn_in p s)
+    same = append-nil (numbers_below (drawn_in p s))
 
-  abbrev opens : ℕ → ℕ → Effect
-  opens w c = record { claims = with_stage s w (stage.Open c); outcome = outcomes.Done }
-
-  abbrev waits : Effect
-  waits = record { claims = s; outcome = outcomes.NotYet (finished p s) }
-
-  claim_gives : (w : ℕ) (o : Option Stage) → numbers_below (drawn_in p s) ++ number_given (claim_by p s w o).outcome ≡ numbers_below (drawn_in p (claim_by p s w o).claims)
-  claim_gives w None = same_numbers
-  claim_gives w (Some stage.Idle) = by (nat_lt s.drawn (unit_count p)) (λ b. below_of s.drawn (unit_count p) b) (λ b. past_of s.drawn (unit_count p) b)
-    where
-      below_of : (a b : ℕ) → nat_lt a b ≡ true → a < b
-      below_of a b h = grind (arith, nat_tests)
-
-      past_of : (a b : ℕ) → nat_lt a b ≡ false → b ≤ a
-      past_of a b h = grind (arith, nat_tests)
-
-      by : (b : Bool) → (b ≡ true → s.drawn < unit_count p) → (b ≡ false → unit_count p ≤ s.drawn)
-          → numbers_below (drawn_in p s) ++ number_given (cond b (given w) (over w)).outcome ≡ numbers_below (drawn_in p (cond b (given w) (over w)).claims)
-      by true few all =
-          let l = few refl in
-          let low : drawn_in p s ≡ s.drawn = min_low s.drawn (unit_count p) (omega (arith, l)) in
-          let next : min (suc s.drawn) (unit_count p) ≡ suc s.drawn = min_low (suc s.drawn) (unit_count p) (omega (arith, l)) in
-          let zero_on : 0 + s.drawn ≡ s.drawn = omega arith in
-          ap (λ x. numbers_below x ++ s.drawn ∷ []) low ∙ sym (numbers_grow 0 s.drawn (0 + s.drawn) refl ∙ ap (λ x. numbers_below s.drawn ++ x ∷ []) zero_on) ∙ ap (λ x. numbers_below x) (sym next)
-      by false few all =
-          let l = all refl in
-          same_numbers ∙ ap (λ x. numbers_below x) (min_high s.drawn (unit_count p) l ∙ sym (min_high (suc s.drawn) (unit_count p) (omega (arith, l))))
-  claim_gives w (Some (stage.Held c)) = same_numbers
-  claim_gives w (Some (stage.Open c)) = same_numbers
-  claim_gives w (Some stage.Ended) = same_numbers
-
-  open_gives : (w : ℕ) (o : Option Stage) → numbers_below (drawn_in p s) ++ number_given (open_by p s w o).outcome ≡ numbers_below (drawn_in p (open_by p s w o).claims)
-  open_gives w None = same_numbers
-  open_gives w (Some stage.Idle) = same_numbers
-  open_gives w (Some (stage.Held c)) = by (may_open p s c)
-    where
-      by : (b : Bool) → numbers_below (drawn_in p s) ++ number_given (cond b (opens w c) waits).outcome ≡ numbers_below (drawn_in p (cond b (opens w c) waits).claims)
-      by true = same_numbers
-      by false = same_numbers
-  open_gives w (Some (stage.Open c)) = same_numbers
-  open_gives w (Some stage.Ended) = same_numbers
-
-  finish_gives : (w : ℕ) (o : Option Stage) → numbers_below (drawn_in p s) ++ number_given (finish_by s w o).outcome ≡ numbers_below (drawn_in p (finish_by s w o).claims)
-  finish_gives w None = same_numbers
-  finish_gives w (Some stage.Idle) = same_numbers
-  finish_gives w (Some (stage.Held c)) = same_numbers
-  finish_gives w (Some (stage.Open c)) = same_numbers
-  finish_gives w (Some stage.Ended) = same_numbers
-
-  step_gives : (e : Event) → numbers_below (drawn_in p s) ++ number_given (outcome p s e) ≡ numbers_below (drawn_in p (step_machine p s e))
-  unfolding effect_of
-  step_gives (event.Claim w) = claim_gives w (slice_get s.stages w)
-  step_gives (event.Open w) = open_gives w (slice_get s.stages w)
-  step_gives (event.Finish w) = finish_gives w (slice_get s.stages w)
-
-run_gives : (p : Plan) (events : List Event) (s : Claims) → numbers_below (drawn_in p s) ++ flat_map number_given (outcomes_of p events s) ≡ numbers_below (drawn_in p (run_machine p events s))
+run_gives : (p : Plan) (events : List Event) (s : Claims)
+    → numbers_below (drawn_in p s) ++ flat_map numbers_given (outcomes_of p events s)
+    ≡ numbers_below (drawn_in p (run_machine p events s))
 unfolding outcomes_of run_machine
-run_gives p [] s = same_numbers p s
+run_gives p [] s = append-nil (numbers_below (drawn_in p s))
 run_gives p (e ∷ events) s =
-    sym (append_assoc (numbers_below (drawn_in p s)) (number_given (outcome p s e)) (flat_map number_given (outcomes_of p events (step_machine p s e))))
-    ∙ ap (λ xs. xs ++ flat_map number_given (outcomes_of p events (step_machine p s e))) (step_gives p s e)
+    let rest = flat_map numbers_given (outcomes_of p events (step_machine p s e)) in
+    sym (append_assoc (numbers_below (drawn_in p s)) (numbers_given (outcome p s e)) rest)
+    ∙ ap (λ xs. xs ++ rest) (step_gives p s e)
     ∙ run_gives p events (step_machine p s e)
 
 pub numbers_rise : NumbersRise
 numbers_rise p workers events =
     let start : drawn_in p (all_idle workers) ≡ 0 = min_low 0 (unit_count p) (omega arith) in
-    ap (λ x. numbers_below x ++ flat_map number_given (outcomes_of p events (all_idle workers))) (sym start) ∙ run_gives p events (all_idle workers)
+    ap (λ x. numbers_below x ++ flat_map numbers_given (outcomes_of p events (all_idle workers)))
+    (sym start)
+    ∙ run_gives p events (all_idle workers)

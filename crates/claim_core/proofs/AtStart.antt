@@ -17,9 +17,8 @@ use Rattle.cell_stages.specs.declared.mail.Mail.{Mail}
 use Rattle.cell_stages.proofs.TwoStages.{steps_have_two_stages}
 use Rattle.claim_core.specs.Machine.{AreReached, IsMachine}
 use Rattle.claim_core.specs.Parts.{done_in, moves, stage_in, stage_of}
-use Rattle.claim_core.specs.Sums.{below}
-use Rattle.claim_core.proofs.Counts.{drawn_in, min_low, none_past, sum_of}
 use Rattle.claim_core.proofs.Cuts.{below_none}
+use Rattle.claim_core.proofs.Events.{none_done, none_finished}
 
 got : {A : Type 0} (f : ℕ → A) (n a i : ℕ) → i < n → slice_get (map f (range_with_len a n)) i ≡ Some (f (a + i))
 got f zero a i h = absurd (omega (arith, h))
@@ -38,18 +37,9 @@ idle_count zero = refl
 idle_count (suc workers) = ap (λ k. suc k) (idle_count workers)
 
 module _ (p : Plan) (workers : ℕ) where
-  none_drawn : drawn_in p (all_idle workers) ≡ 0
-  none_drawn = min_low 0 (unit_count p) (omega arith)
-
-  none_done : (x : ℕ) → done_in p (all_idle workers) x ≡ 0
-  none_done x = none_past p (all_idle workers) x (omega (arith, none_drawn))
-
-  none_finished : finished p (all_idle workers) ≡ 0
-  none_finished = sum_of p (all_idle workers) ∙ ap (λ b. below b (done_in p (all_idle workers))) none_drawn
-
   no_stage : (part : ℕ) → stage_in p (all_idle workers) part ≡ 0
   unfolding stage_of
-  no_stage part = below_none (λ x. moves p part x * done_in p (all_idle workers) x) (unit_count p) (λ x l. ap (λ d. moves p part x * d) (none_done x) ∙ omega arith)
+  no_stage part = below_none (λ x. moves p part x * done_in p (all_idle workers) x) (unit_count p) (λ x l. ap (λ d. moves p part x * d) (none_done p workers x) ∙ omega arith)
 
   reached_at_start : AreReached p (all_idle workers)
   unfolding run_machine
@@ -70,7 +60,7 @@ module _ (p : Plan) (workers : ℕ) where
           cells = λ n h. ap (λ xs. slice_get xs n) first ∙ got_below (λ m. cell_before p m 0 away away) (node_count p) n h ∙ ap (λ x. Some x) (sym ((steps_have_two_stages p 0).0.cell n) ∙ ap (λ x. cell_at p n x) (at n));
           mail = λ l h. ap (λ xs. slice_get xs l) rooms ∙ got_below (room_of p 0) (length p.net.links) l h ∙ ap (λ x. Some x) (sym ((steps_have_two_stages p 0).0.mail l) ∙ ap (λ x. mail_at p l x) (at (mail_part p l)));
         };
-        counted = sym (ap (λ x. finished p x) is ∙ none_finished);
+        counted = sym (ap (λ x. finished p x) is ∙ none_finished p workers);
         few = let c = ap (λ x. length x.stages) is in let i = idle_count workers in omega (arith, c, i, few);
       }
 

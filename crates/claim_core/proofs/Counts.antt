@@ -9,7 +9,6 @@ use Rattle.net_core.specs.Network.{numbers_below}
 use Rattle.dta_model.specs.Machine.{Claims, finished, holds_unit, is_finished}
 use Rattle.dta_model.specs.Units.{unit_count}
 use Rattle.dta_model.specs.declared.plan.Plan.{Plan}
-use Rattle.dta_model.specs.declared.machine.Stage.{Stage}
 use Rattle.claim_core.specs.Parts.{done_in}
 use Rattle.claim_core.specs.Sums.{below, once_below, one_if, total}
 use Rattle.claim_core.proofs.Cuts.{below_cut}
@@ -87,7 +86,7 @@ sum_of p s = count_below (is_finished p s) (unit_count p)
     ∙ below_cut (done_in p s) (done_in p s) (drawn_in p s) (unit_count p) (omega arith) (λ x l. refl) (none_past p s)
 
 module _ {A : Type 0} where
-  some_is : (a b : A) → Some a ≡ Some b → a ≡ b
+  pub some_is : (a b : A) → Some a ≡ Some b → a ≡ b
   some_is a b e = cc
 
   pub total_slice : (f : A → ℕ) (vs : List A) (i : ℕ) (v w : A) → slice_get vs i ≡ Some v → total f (slice_set vs i w) + f v ≡ total f vs + f w
@@ -102,7 +101,3 @@ module _ {A : Type 0} where
   get_set (v ∷ vs) zero (suc i) x y e = inr e
   get_set (v ∷ vs) (suc w) zero x y e = inr e
   get_set (v ∷ vs) (suc w) (suc i) x y e = get_set vs w i x y e
-
-pub held_set : (s : List Stage) (w : ℕ) (old new : Stage) (x : ℕ) → slice_get s w ≡ Some old
-    → count_by (holds_unit x) (slice_set s w new) + one_if (holds_unit x old) ≡ count_by (holds_unit x) s + one_if (holds_unit x new)
-held_set s w old new x e = omega (arith, count_is (holds_unit x) s, count_is (holds_unit x) (slice_set s w new), total_slice (λ y. one_if (holds_unit x y)) s w old new e)

@@ -1,207 +1,196 @@
--- What the three events make, by what their worker has.
-use Rattle.std.specs.Prelude.{slice_get, slice_index_or, slice_set}
-use Rattle.std.proofs.Common.{◌≡◌, ℕ, suc, ◌+◌, ◌<◌, ◌≤◌, Bool, true, false, cond, List, length, refl, ap, sym, ◌∙◌, subst, arith, lt_of_not-le, Option, Some, None, add-one}
+-- What the events make, by what their worker has.
+use Rattle.std.specs.Prelude.{nat_lt, slice_get, slice_index_or, slice_set}
+use Rattle.std.proofs.Common.{◌≡◌, ℕ, ◌+◌, ◌<◌, ◌≤◌, min, Bool, true, false, cond, length, refl, ap, sym, ◌∙◌, arith, Option, Some, None, ◌⊎◌, inl, inr}
+use Rattle.std.proofs.lemmas.Bool.{cond-false, cond-true}
 use Rattle.std.proofs.lemmas.Bool.Decides.{nat_tests}
 use Rattle.std.proofs.lemmas.Option.{slice_get-get_or}
 use Rattle.net_core.proofs.Orders.{is_le, is_lt, not_le, not_lt}
-use mathlib.Core.Logic.{dite}
-use native.Mathlib.Decide.{dec_le}
-use Rattle.dta_model.specs.Machine.{Claims, Effect, claim_by, effect_of, finish_by, finished, misplaced, open_by, with_stage}
-use Rattle.dta_model.specs.Sound.{IsSound}
-use Rattle.dta_model.specs.Units.{Gather, Posting, Task, Transfer, mail_part, node_count, phase_end, phase_start, posting_part, task_of, unit_count}
+use Rattle.dta_model.specs.Machine.{Claims, Effect, claim_by, claim_chunk_by, drawn_by, effect_of, finish_by, finished, fits_chunk, left_of, may_open, misplaced, open_by, with_stage}
+use Rattle.dta_model.specs.Units.{node_count, phase_end, phase_start, unit_count}
 use Rattle.dta_model.specs.declared.plan.Plan.{Plan}
 use Rattle.dta_model.specs.declared.machine.Event.TheVariants as event
+use Rattle.dta_model.specs.declared.machine.Outcome.{Outcome}
 use Rattle.dta_model.specs.declared.machine.Outcome.TheVariants as outcomes
 use Rattle.dta_model.specs.declared.machine.Stage.{Stage}
 use Rattle.dta_model.specs.declared.machine.Stage.TheVariants as stage
-use Rattle.dta_model.specs.Plans.{ins, outs}
-use Rattle.cell_stages.specs.Contents.{cell_at, mail_at}
-use Rattle.node_transfer.specs.Exchange.{is_among}
-use Rattle.claim_core.specs.Machine.{AreReached}
-use Rattle.claim_core.specs.Parts.{done_in, moves, stage_before, stage_in, stage_of}
-use Rattle.claim_core.specs.Sums.{is_at, one_if}
-use Rattle.claim_core.specs.Work.{AreAtStages, AreMoved, AreReady, PartsState}
-use Rattle.claim_core.proofs.Places.{alone}
-use Rattle.claim_core.proofs.Claimed.{finished_le}
-use Rattle.claim_core.proofs.Counts.{drawn_in, held_in}
-use Rattle.claim_core.proofs.Events.{Kept, always_kept, done_more, finished_kept, in_phase, is_held, one_more}
-use Rattle.claim_core.proofs.Cuts.{point}
-use Rattle.claim_core.proofs.Phases.{same_start, same_stop, start_le}
-use Rattle.claim_core.proofs.Stages.{stage_held, stage_more}
-use Rattle.claim_core.proofs.Working.{gather_of, index_of, moves_by, transfer_of}
-use Rattle.claim_core.proofs.Sums.{once_in, once_le}
+use Rattle.dta_model.specs.declared.machine.TheConstants.{MOST_CHUNK}
+use Rattle.claim_core.proofs.Working.{index_of}
 
-pub kept_of : (p : Plan) (s : Claims) → AreReached p s → Kept p s
-kept_of p s r = subst (λ x. Kept p x) (sym r.claims) (always_kept p r.workers r.events)
+-- what a worker has, by what was read at its place
+pub has : {v s : Claims} {w : ℕ} {x y : Stage} → v ≡ s → w < length s.stages
+    → x ≡ slice_index_or v.stages w x → x ≡ y → slice_get s.stages w ≡ Some y
+has {v} {s} {w} {x} {y} same inside read is =
+    slice_get-get_or s.stages w x inside
+    ∙ ap (λ z. Some z) (sym (read ∙ ap (λ (c : Claims). slice_index_or c.stages w x) same) ∙ is)
 
-pub has : (stages : List Stage) (w : ℕ) (x y : Stage) → w < length stages → x ≡ slice_index_or stages w x → x ≡ y → slice_get stages w ≡ Some y
-has stages w x y h e is = slice_get-get_or stages w x h ∙ ap (λ z. Some z) (sym e ∙ is)
+pub fit : (many : ℕ) → 1 ≤ many → many ≤ MOST_CHUNK → fits_chunk many ≡ true
+fit many low high = grind (arith, nat_tests)
+
+pub unfit : (many : ℕ) → (many < 1) ⊎ (1 ≤ many × MOST_CHUNK < many) → fits_chunk many ≡ false
+unfit many (inl low) = grind (arith, nat_tests)
+unfit many (inr high) = (let above = high.1 in grind (arith, nat_tests))
+
+-- a claim is that of a chunk of one
+abbrev pub single : Outcome → Outcome
+single (outcomes.Given u) = outcomes.Given u
+single (outcomes.GivenChunk a b) = outcomes.Given a
+single outcomes.Done = outcomes.Done
+single (outcomes.NotYet n) = outcomes.NotYet n
+single (outcomes.Over u) = outcomes.Over u
+single outcomes.Misplaced = outcomes.Misplaced
+
+abbrev single_effect : Effect → Effect
+single_effect f = record { claims = f.claims; outcome = single f.outcome }
+
+of_cond : (b : Bool) (x y : Effect)
+    → single_effect (cond b x y) ≡ cond b (single_effect x) (single_effect y)
+of_cond true x y = refl
+of_cond false x y = refl
+
+pub same_single : (o : Outcome) → ((a b : ℕ) → o ≡ outcomes.GivenChunk a b → ⊥) → single o ≡ o
+same_single (outcomes.Given u) h = refl
+same_single (outcomes.GivenChunk a b) h = absurd (h a b refl)
+same_single outcomes.Done h = refl
+same_single (outcomes.NotYet n) h = refl
+same_single (outcomes.Over u) h = refl
+same_single outcomes.Misplaced h = refl
 
 module _ (p : Plan) (s : Claims) (w : ℕ) where
-  abbrev given : Effect
-  given = record {
-    claims = record (with_stage s w (stage.Held s.drawn)) { drawn = suc s.drawn };
-    outcome = outcomes.Given s.drawn;
-  }
-
-  abbrev over : Effect
-  over = record {
-    claims = record (with_stage s w stage.Ended) { drawn = suc s.drawn };
-    outcome = outcomes.Over s.drawn;
-  }
-
-  pub claim_given : slice_get s.stages w ≡ Some stage.Idle → s.drawn < unit_count p → record { claims = record { drawn = s.drawn + 1; stages = slice_set s.stages w (stage.Held s.drawn) }; outcome = outcomes.Given s.drawn } ≡ effect_of p s (event.Claim w)
+  pub claim_is : {new : Claims} {o given : Outcome}
+      → record { claims = new; outcome = o } ≡ effect_of p s (event.ClaimChunk w 1)
+      → single o ≡ given → record { claims = new; outcome = given } ≡ effect_of p s (event.Claim w)
   unfolding effect_of
-  claim_given idle few =
-      ap (λ (d : ℕ). record { claims = record (with_stage s w (stage.Held s.drawn)) { drawn = d }; outcome = outcomes.Given s.drawn }) (add-one s.drawn)
-      ∙ sym (ap (λ o. claim_by p s w o) idle ∙ ap (λ b. cond b given over) (is_lt s.drawn (unit_count p) few))
-
-  pub claim_over : slice_get s.stages w ≡ Some stage.Idle → unit_count p ≤ s.drawn → record { claims = record { drawn = s.drawn + 1; stages = slice_set s.stages w stage.Ended }; outcome = outcomes.Over s.drawn } ≡ effect_of p s (event.Claim w)
-  unfolding effect_of
-  claim_over idle all =
-      ap (λ (d : ℕ). record { claims = record (with_stage s w stage.Ended) { drawn = d }; outcome = outcomes.Over s.drawn }) (add-one s.drawn)
-      ∙ sym (ap (λ o. claim_by p s w o) idle ∙ ap (λ b. cond b given over) (not_lt s.drawn (unit_count p) all))
-
-  pub claim_misplaced : (x : Stage) → x ≡ slice_index_or s.stages w x → (x ≡ stage.Idle → ⊥) → misplaced s ≡ effect_of p s (event.Claim w)
-  unfolding effect_of
-  claim_misplaced x is other = by (slice_get s.stages w) (λ e. other (is ∙ index_of s.stages w stage.Idle x e))
+  claim_is {new} made is = ap (λ (x : Outcome). record { claims = new; outcome = x }) (sym is)
+      ∙ ap single_effect made ∙ by (slice_get s.stages w)
     where
-      by : (o : Option Stage) → (o ≡ Some stage.Idle → ⊥) → misplaced s ≡ claim_by p s w o
-      by None h = refl
-      by (Some stage.Idle) h = absurd (h refl)
-      by (Some (stage.Held c)) h = refl
-      by (Some (stage.Open c)) h = refl
-      by (Some stage.Ended) h = refl
+      by : (x : Option Stage) → single_effect (claim_chunk_by p s w 1 x) ≡ claim_by p s w x
+      by None = refl
+      by (Some stage.Idle) = of_cond (nat_lt s.drawn (unit_count p)) _ _
+      by (Some (stage.Held a b)) = refl
+      by (Some (stage.Open a m b)) = refl
+      by (Some stage.Ended) = refl
 
-  abbrev opens : ℕ → Effect
-  opens c = record { claims = with_stage s w (stage.Open c); outcome = outcomes.Done }
+  module _ (many : ℕ) where
+    pub chunk_misplaced : (x : Stage) → x ≡ slice_index_or s.stages w x → (x ≡ stage.Idle → ⊥)
+        → misplaced s ≡ effect_of p s (event.ClaimChunk w many)
+    unfolding effect_of
+    chunk_misplaced x is other =
+        by (slice_get s.stages w) (λ e. other (is ∙ index_of s.stages w stage.Idle x e))
+      where
+        by : (o : Option Stage) → (o ≡ Some stage.Idle → ⊥)
+            → misplaced s ≡ claim_chunk_by p s w many o
+        by None h = refl
+        by (Some stage.Idle) h = absurd (h refl)
+        by (Some (stage.Held a b)) h = refl
+        by (Some (stage.Open a m b)) h = refl
+        by (Some stage.Ended) h = refl
 
-  abbrev waits : Effect
-  waits = record { claims = s; outcome = outcomes.NotYet (finished p s) }
+    module _ (idle : slice_get s.stages w ≡ Some stage.Idle) where
+      abbrev given : Outcome
+      given = outcomes.GivenChunk s.drawn (min (s.drawn + many) (unit_count p))
 
-  pub open_done : (c : ℕ) → slice_get s.stages w ≡ Some (stage.Held c) → phase_start (node_count p) c ≤ finished p s → record { claims = record { drawn = s.drawn; stages = slice_set s.stages w (stage.Open c) }; outcome = outcomes.Done } ≡ effect_of p s (event.Open w)
+      idle_is : claim_chunk_by p s w many (slice_get s.stages w)
+          ≡ cond (fits_chunk many) (drawn_by p s w many given) (misplaced s)
+      idle_is = ap (λ o. claim_chunk_by p s w many o) idle
+
+      pub chunk_unfit : fits_chunk many ≡ false
+          → misplaced s ≡ effect_of p s (event.ClaimChunk w many)
+      unfolding effect_of
+      chunk_unfit unfit =
+          sym (idle_is ∙ cond-false (fits_chunk many) (drawn_by p s w many given) (misplaced s) unfit)
+
+      module _ (fit : fits_chunk many ≡ true) where
+        fit_is : claim_chunk_by p s w many (slice_get s.stages w) ≡ drawn_by p s w many given
+        fit_is = idle_is ∙ cond-true (fits_chunk many) (drawn_by p s w many given) (misplaced s) fit
+
+        abbrev held : ℕ → Effect
+        held end = record {
+          claims = record { drawn = s.drawn + many; stages = slice_set s.stages w (stage.Held s.drawn end) };
+          outcome = outcomes.GivenChunk s.drawn end;
+        }
+
+        abbrev over : Effect
+        over = record {
+          claims = record { drawn = s.drawn + many; stages = slice_set s.stages w stage.Ended };
+          outcome = outcomes.Over s.drawn;
+        }
+
+        pub chunk_given : s.drawn < unit_count p → (end : ℕ) → end ≡ min (s.drawn + many) (unit_count p)
+            → held end ≡ effect_of p s (event.ClaimChunk w many)
+        unfolding effect_of
+        chunk_given few end is = ap held is ∙ sym (fit_is
+            ∙ cond-true (nat_lt s.drawn (unit_count p)) (held (min (s.drawn + many) (unit_count p))) over
+            (is_lt s.drawn (unit_count p) few))
+
+        pub chunk_over : unit_count p ≤ s.drawn → over ≡ effect_of p s (event.ClaimChunk w many)
+        unfolding effect_of
+        chunk_over all = sym (fit_is
+            ∙ cond-false (nat_lt s.drawn (unit_count p)) (held (min (s.drawn + many) (unit_count p))) over
+            (not_lt s.drawn (unit_count p) all))
+
+  pub open_misplaced : (x : Stage) → x ≡ slice_index_or s.stages w x
+      → ((a b : ℕ) → x ≡ stage.Held a b → ⊥) → misplaced s ≡ effect_of p s (event.Open w)
   unfolding effect_of
-  open_done c held may = sym (ap (λ o. open_by p s w o) held ∙ ap (λ b. cond b (opens c) waits) (is_le (phase_start (node_count p) c) (finished p s) may))
-
-  pub open_not_yet : (c n : ℕ) → slice_get s.stages w ≡ Some (stage.Held c) → n ≡ finished p s → finished p s < phase_start (node_count p) c → record { claims = s; outcome = outcomes.NotYet n } ≡ effect_of p s (event.Open w)
-  unfolding effect_of
-  open_not_yet c n held count may =
-      ap (λ (x : ℕ). record { claims = s; outcome = outcomes.NotYet x }) count
-      ∙ sym (ap (λ o. open_by p s w o) held ∙ ap (λ b. cond b (opens c) waits) (not_le (phase_start (node_count p) c) (finished p s) may))
-
-  pub open_misplaced : (x : Stage) → x ≡ slice_index_or s.stages w x → ((c : ℕ) → x ≡ stage.Held c → ⊥) → misplaced s ≡ effect_of p s (event.Open w)
-  unfolding effect_of
-  open_misplaced x is other = by (slice_get s.stages w) (λ c e. other c (is ∙ index_of s.stages w (stage.Held c) x e))
+  open_misplaced x is other =
+      by (slice_get s.stages w) (λ a b e. other a b (is ∙ index_of s.stages w (stage.Held a b) x e))
     where
-      by : (o : Option Stage) → ((c : ℕ) → o ≡ Some (stage.Held c) → ⊥) → misplaced s ≡ open_by p s w o
+      by : (o : Option Stage) → ((a b : ℕ) → o ≡ Some (stage.Held a b) → ⊥)
+          → misplaced s ≡ open_by p s w o
       by None h = refl
       by (Some stage.Idle) h = refl
-      by (Some (stage.Held c)) h = absurd (h c refl)
-      by (Some (stage.Open c)) h = refl
+      by (Some (stage.Held a b)) h = absurd (h a b refl)
+      by (Some (stage.Open a m b)) h = refl
       by (Some stage.Ended) h = refl
 
-  pub finish_done : (c : ℕ) → slice_get s.stages w ≡ Some (stage.Open c) → record { claims = record { drawn = s.drawn; stages = slice_set s.stages w stage.Idle }; outcome = outcomes.Done } ≡ effect_of p s (event.Finish w)
-  unfolding effect_of
-  finish_done c out = sym (ap (λ o. finish_by s w o) out)
+  module _ (a b : ℕ) (held : slice_get s.stages w ≡ Some (stage.Held a b)) where
+    abbrev opens : ℕ → Effect
+    opens m = record {
+      claims = record { drawn = s.drawn; stages = slice_set s.stages w (stage.Open a m b) };
+      outcome = outcomes.Done;
+    }
 
-  pub finish_misplaced : (x : Stage) → x ≡ slice_index_or s.stages w x → ((c : ℕ) → x ≡ stage.Open c → ⊥) → misplaced s ≡ effect_of p s (event.Finish w)
+    abbrev waits : ℕ → Effect
+    waits n = record { claims = s; outcome = outcomes.NotYet n }
+
+    abbrev stop : ℕ
+    stop = min b (phase_end (node_count p) a)
+
+    pub open_begins : (m : ℕ) → m ≡ stop → phase_start (node_count p) a ≤ finished p s
+        → opens m ≡ effect_of p s (event.Open w)
+    unfolding effect_of
+    open_begins m is may = ap opens is ∙ sym (ap (λ o. open_by p s w o) held
+        ∙ cond-true (may_open p s a) (opens stop) (waits (finished p s))
+        (is_le (phase_start (node_count p) a) (finished p s) may))
+
+    pub open_waits : (n : ℕ) → n ≡ finished p s → finished p s < phase_start (node_count p) a
+        → waits n ≡ effect_of p s (event.Open w)
+    unfolding effect_of
+    open_waits n count early = ap waits count ∙ sym (ap (λ o. open_by p s w o) held
+        ∙ cond-false (may_open p s a) (opens stop) (waits (finished p s))
+        (not_le (phase_start (node_count p) a) (finished p s) early))
+
+  pub finish_misplaced : (x : Stage) → x ≡ slice_index_or s.stages w x
+      → ((a m b : ℕ) → x ≡ stage.Open a m b → ⊥) → misplaced s ≡ effect_of p s (event.Finish w)
   unfolding effect_of
-  finish_misplaced x is other = by (slice_get s.stages w) (λ c e. other c (is ∙ index_of s.stages w (stage.Open c) x e))
+  finish_misplaced x is other =
+      by (slice_get s.stages w)
+      (λ a m b e. other a m b (is ∙ index_of s.stages w (stage.Open a m b) x e))
     where
-      by : (o : Option Stage) → ((c : ℕ) → o ≡ Some (stage.Open c) → ⊥) → misplaced s ≡ finish_by s w o
+      by : (o : Option Stage) → ((a m b : ℕ) → o ≡ Some (stage.Open a m b) → ⊥)
+          → misplaced s ≡ finish_by s w o
       by None h = refl
       by (Some stage.Idle) h = refl
-      by (Some (stage.Held c)) h = refl
-      by (Some (stage.Open c)) h = absurd (h c refl)
+      by (Some (stage.Held a b)) h = refl
+      by (Some (stage.Open a m b)) h = absurd (h a m b refl)
       by (Some stage.Ended) h = refl
 
-at_most_one : (x y : ℕ) → is_at x y ≤ 1
-at_most_one x y = grind (arith, nat_tests)
-
-one_at_most : (b : Bool) → one_if b ≤ 1
-one_at_most true = omega arith
-one_at_most false = omega arith
-
--- a part is moved once or not
-module _ (p : Plan) (sound : IsSound p) (c : ℕ) where
-  cell_most : (n : ℕ) → n < node_count p → moves p n c ≤ 1
-  cell_most n h = by (task_of (node_count p) c) refl
-    where
-      by : (task : Task) → task_of (node_count p) c ≡ task → moves p n c ≤ 1
-      by (Transfer a) e = omega (arith, (transfer_of p sound c a e).cell_moves n h, at_most_one n a)
-      by (Gather a) e = omega (arith, (gather_of p sound c a e).cell_moves n h, at_most_one n a)
-      by Posting e = omega (arith, moves_by p sound c 0 Posting e n, at_most_one n (posting_part p))
-
-  mail_most : (l : ℕ) → l < length p.net.links → moves p (mail_part p l) c ≤ 1
-  mail_most l h = by (task_of (node_count p) c) refl
-    where
-      by : (task : Task) → task_of (node_count p) c ≡ task → moves p (mail_part p l) c ≤ 1
-      by (Transfer a) e = let q = (transfer_of p sound c a e).mail_moves l h in omega (arith, q, one_at_most (is_among (outs p a) l))
-      by (Gather a) e = let q = (gather_of p sound c a e).mail_moves l h in omega (arith, q, one_at_most (is_among (ins p a) l))
-      by Posting e = omega (arith, moves_by p sound c 0 Posting e (mail_part p l), at_most_one (mail_part p l) (posting_part p))
-
--- a unit that is open is finished
-module _ (p : Plan) (sound : IsSound p) (s : Claims) (k : Kept p s) (w c : ℕ) (out : slice_get s.stages w ≡ Some (stage.Open c)) where
-  abbrev pub then_claims : Claims
-  then_claims = with_stage s w stage.Idle
-
-  held_now : 1 ≤ held_in s c
-  held_now = is_held p s k w c out
-
-  pub is_unit : c < unit_count p
-  is_unit = let l : c < drawn_in p s = once_in c (drawn_in p s) (omega (arith, k.claimed.once c, held_now)) in omega (arith, l)
-
-  pub next_count : finished p then_claims ≡ suc (finished p s)
-  next_count = one_more p s k w c out
-
-  pub count_fits : finished p s + 1 ≤ s.drawn
-  count_fits = omega (arith, next_count, finished_le (node_count p) (drawn_in p then_claims) (finished p then_claims) (done_in p then_claims) (held_in then_claims) (finished_kept p s k w c out).claimed)
-
-  stage_now : (part : ℕ) → 1 ≤ moves p part c → stage_in p s part ≡ stage_before p c part
-  unfolding stage_of stage_before
-  stage_now part own =
-      let N : ℕ = node_count p in
-      let n : ℕ = finished p s in
-      let at = in_phase p s k w c out in
-      let low : phase_start N n ≤ c = at.0 in
-      let high : c < phase_end N n = at.1 in
-      let from : phase_start N c ≡ phase_start N n = same_start N n c low high in
-      let to : phase_end N c ≡ phase_end N n = same_stop N n c low high in
-      let g : ℕ = drawn_in p s in
-      stage_held (unit_count p) N n (done_in p s)
-      (omega (arith, start_le N n, finished_le N g n (done_in p s) (held_in s) k.claimed))
-      (λ x. omega (arith, k.claimed.once x, once_le x g)) k.claimed.before k.claimed.after
-      (moves p part) c (omega (arith, k.claimed.once c, once_le c g, held_now)) low high
-      (λ x lo hi other. alone p c x part (omega (arith, lo, from)) (omega (arith, hi, to)) other own)
-
-  stage_next : (part : ℕ) → stage_in p then_claims part ≡ stage_in p s part + moves p part c
-  unfolding stage_of
-  stage_next part =
-      stage_more (unit_count p) (moves p part) (done_in p s) (done_in p then_claims)
-      (λ x. is_at x c) (done_more p s k w c out)
-      ∙ ap (λ m. stage_in p s part + m) (point (moves p part) c (unit_count p) is_unit)
-
-  module _ (parts : PartsState) (at : AreAtStages p (stage_in p s) parts) where
-    pub parts_ready : AreReady p c parts
-    parts_ready = record {
-      counted = at.counted;
-      cells = λ n h one. at.cells n h ∙ ap (λ x. Some (cell_at p n x)) (stage_now n one);
-      mail = λ l h one. at.mail l h ∙ ap (λ x. Some (mail_at p l x)) (stage_now (mail_part p l) one);
-    }
-
-    pub parts_then : (new : PartsState) → AreMoved p c parts new → AreAtStages p (stage_in p then_claims) new
-    parts_then new moved = record {
-      counted = moved.counted;
-      cells = λ n h. dite (dec_le 1 (moves p n c))
-          (λ one. let e : suc (stage_before p c n) ≡ stage_in p then_claims n = omega (arith, stage_next n, stage_now n one, cell_most p sound c n h, one) in
-          moved.cells n h one ∙ ap (λ x. Some (cell_at p n x)) e)
-          (λ other. let z : moves p n c ≡ 0 = (let l = lt_of_not-le other in omega (arith, l)) in
-          let e : stage_in p s n ≡ stage_in p then_claims n = omega (arith, stage_next n, z) in
-          moved.other_cells n h z ∙ at.cells n h ∙ ap (λ x. Some (cell_at p n x)) e);
-      mail = λ l h. dite (dec_le 1 (moves p (mail_part p l) c))
-          (λ one. let e : suc (stage_before p c (mail_part p l)) ≡ stage_in p then_claims (mail_part p l) = omega (arith, stage_next (mail_part p l), stage_now (mail_part p l) one, mail_most p sound c l h, one) in
-          moved.mail l h one ∙ ap (λ x. Some (mail_at p l x)) e)
-          (λ other. let z : moves p (mail_part p l) c ≡ 0 = (let l = lt_of_not-le other in omega (arith, l)) in
-          let e : stage_in p s (mail_part p l) ≡ stage_in p then_claims (mail_part p l) = omega (arith, stage_next (mail_part p l), z) in
-          moved.other_mail l h z ∙ at.mail l h ∙ ap (λ x. Some (mail_at p l x)) e);
-    }
+  pub finish_ends : (a m b : ℕ) → slice_get s.stages w ≡ Some (stage.Open a m b) → (left : Stage)
+      → left ≡ left_of (stage.Open a m b)
+      → record {
+        claims = record { drawn = s.drawn; stages = slice_set s.stages w left };
+        outcome = outcomes.Done;
+      } ≡ effect_of p s (event.Finish w)
+  unfolding effect_of
+  finish_ends a m b out left is =
+      ap (λ (x : Stage). record { claims = with_stage s w x; outcome = outcomes.Done }) is
+      ∙ sym (ap (λ o. finish_by s w o) out)

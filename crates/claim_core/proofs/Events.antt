@@ -1,266 +1,313 @@
 -- What every event keeps.
-use Rattle.std.specs.Prelude.{nat_le, nat_lt, slice_get, slice_set}
+use Rattle.std.specs.Prelude.{slice_get, slice_set}
 use Rattle.std.specs.List.{repeat}
-use Rattle.std.proofs.Common.{◌≡◌, ℕ, zero, suc, ◌+◌, ◌<◌, ◌≤◌, Bool, true, false, cond, List, [], ◌∷◌, refl, ap, sym, ◌∙◌, arith, Option, Some, None, ◌⊎◌, inl, inr}
-use Rattle.std.proofs.lemmas.Bool.Decides.{nat_tests}
-use Rattle.dta_model.specs.Machine.{Claims, Effect, all_idle, claim_by, effect_of, finish_by, finished, holds_unit, may_open, open_by, run_machine, step_machine, with_stage}
-use Rattle.dta_model.specs.Units.{node_count, phase_start, phase_end, unit_count}
+use Rattle.std.proofs.Common.{◌≡◌, ℕ, zero, suc, ◌+◌, ◌-◌, ◌*◌, ◌<◌, ◌≤◌, min, false, List, [], ◌∷◌, length, refl, sym, ◌∙◌, subst, arith, Some, ⊎_elim, lt_of_not-le}
+use mathlib.Core.Logic.{dite}
+use native.Mathlib.Decide.{dec_le}
+use Rattle.dta_model.specs.Machine.{Claims, all_idle, finished, first_in, held_end, left_of, run_machine, step_machine, with_open, with_stage}
+use Rattle.dta_model.specs.Units.{node_count, phase_end, phase_start, unit_count}
 use Rattle.dta_model.specs.declared.plan.Plan.{Plan}
 use Rattle.dta_model.specs.declared.machine.Event.{Event}
-use Rattle.dta_model.specs.declared.machine.Event.TheVariants as event
-use Rattle.dta_model.specs.declared.machine.Outcome.TheVariants as outcomes
+use Rattle.dta_model.specs.declared.machine.Outcome.{Outcome}
 use Rattle.dta_model.specs.declared.machine.Stage.{Stage}
 use Rattle.dta_model.specs.declared.machine.Stage.TheVariants as stage
+use Rattle.dta_model.specs.declared.machine.TheConstants.{MOST_CHUNK}
 use Rattle.claim_core.specs.Claimed.{Claimed}
+use Rattle.claim_core.specs.Machine.{AreReached}
 use Rattle.claim_core.specs.Parts.{done_in}
 use Rattle.claim_core.specs.Runs.{among}
-use Rattle.claim_core.specs.Sums.{below, is_at, once_below, one_if, total}
-use Rattle.claim_core.proofs.Claimed.{draw, finish, open_now}
-use Rattle.claim_core.proofs.Counts.{count_is, done_is, drawn_in, get_set, held_in, held_set, min_high, min_low, none_past, sum_of}
-use Rattle.claim_core.proofs.Cuts.{below_same}
-use Rattle.claim_core.proofs.Phases.{start_le}
-use Rattle.claim_core.proofs.Runs.{among_one, below_among, is_among}
-use Rattle.claim_core.proofs.Sums.{once_in}
+use Rattle.claim_core.specs.Sums.{below, total}
+use Rattle.claim_core.proofs.Claimed.{draw, finish, none_held, not_past, open_now}
+use Rattle.claim_core.proofs.Counts.{done_is, drawn_in, get_set, held_in, some_is, sum_of, total_slice}
+use Rattle.claim_core.proofs.Cuts.{below_none, below_same}
+use Rattle.claim_core.proofs.Holds.{Fits, has_ended, held_at, held_by_all, held_left, held_set, left_by}
+use Rattle.claim_core.proofs.Phases.{lt_stop, same_start, same_stop, start_le}
+use Rattle.claim_core.proofs.Runs.{among_in, among_none, among_two, below_among, is_among}
+use Rattle.claim_core.proofs.Steps.{IsDrawn, is_finish, moved_to, step_by}
+use Rattle.claim_core.proofs.Sums.{once_in, once_out}
 
--- claims are kept where their numbers are, and open units are those of phases that have begun
+-- claims are kept where their numbers are, the rows of the workers fit these, and no more numbers
+-- are past the last unit than the workers that have ended drew, and one more chunk
 pub record Kept (p : Plan) (s : Claims) : Type 0 where
   pub claimed : Claimed (node_count p) (drawn_in p s) (finished p s) (done_in p s) (held_in s)
-  pub opened : (w c : ℕ) → slice_get s.stages w ≡ Some (stage.Open c) → phase_start (node_count p) c ≤ finished p s
+  pub each : (w : ℕ) (x : Stage) → slice_get s.stages w ≡ Some x
+      → Fits (node_count p) (finished p s) x
+  pub few : s.drawn ≤ unit_count p + MOST_CHUNK * (1 + total has_ended s.stages)
 
-claimed_same : (N g n g' n' : ℕ) (D H D' H' : ℕ → ℕ) → Claimed N g n D H → g' ≡ g → n' ≡ n → ((x : ℕ) → D' x ≡ D x) → ((x : ℕ) → H' x ≡ H x) → Claimed N g' n' D' H'
-claimed_same N g n g' n' D H D' H' k ge ne d h = record {
-  once = λ x. omega (arith, k.once x, d x, h x, ap (λ b. once_below x b) ge);
-  sum = ne ∙ k.sum ∙ sym (below_same D' D g (λ x l. d x)) ∙ ap (λ b. below b D') (sym ge);
-  before = λ x l. omega (arith, k.before x (omega (arith, l, ap (λ m. phase_start N m) ne)), d x);
-  after = λ x l. omega (arith, k.after x (omega (arith, l, ap (λ m. phase_end N m) ne)), d x);
-}
+-- what is done and finished is what their numbers tell
+module _ (p : Plan) (s : Claims) (n : ℕ) (D : ℕ → ℕ)
+    (c : Claimed (node_count p) (drawn_in p s) n D (held_in s)) where
+  pub done_are : (x : ℕ) → done_in p s x ≡ D x
+  done_are x = omega (arith, done_is p s x, c.once x)
 
--- the same numbers are drawn and held
-module _ (p : Plan) (s s' : Claims) (g : drawn_in p s' ≡ drawn_in p s) (h : (x : ℕ) → held_in s' x ≡ held_in s x) where
-  pub done_stays : (x : ℕ) → done_in p s' x ≡ done_in p s x
-  done_stays x = omega (arith, done_is p s x, done_is p s' x, h x, ap (λ b. once_below x b) g)
+  pub finished_are : finished p s ≡ n
+  finished_are = sum_of p s ∙ below_same (done_in p s) D (drawn_in p s) (λ x _. done_are x) ∙ sym c.sum
 
-  finished_stays : finished p s' ≡ finished p s
-  finished_stays = sum_of p s' ∙ below_same (done_in p s') (done_in p s) (drawn_in p s') (λ x l. done_stays x) ∙ ap (λ b. below b (done_in p s)) g ∙ sym (sum_of p s)
-
-  claimed_stays : Kept p s → Claimed (node_count p) (drawn_in p s') (finished p s') (done_in p s') (held_in s')
-  claimed_stays k = claimed_same (node_count p) (drawn_in p s) (finished p s) (drawn_in p s') (finished p s') (done_in p s) (held_in s) (done_in p s') (held_in s') k.claimed g finished_stays done_stays h
-
-not_idle : (c : ℕ) → stage.Idle ≡ stage.Open c → ⊥
-not_idle c e = cc
-
-not_held : (u c : ℕ) → stage.Held u ≡ stage.Open c → ⊥
-not_held u c e = cc
-
-not_ended : (c : ℕ) → stage.Ended ≡ stage.Open c → ⊥
-not_ended c e = cc
-
-open_is : (u c : ℕ) → stage.Open u ≡ stage.Open c → u ≡ c
-open_is u c e = cc
-
--- what is open stays so, unless its worker has something else
-module _ (p : Plan) (s : Claims) (k : Kept p s) (n : ℕ) (more : finished p s ≤ n) (w : ℕ) (new : Stage) where
-  opened_stays : ((c : ℕ) → new ≡ stage.Open c → phase_start (node_count p) c ≤ n) → (i c : ℕ) → slice_get (slice_set s.stages w new) i ≡ Some (stage.Open c) → phase_start (node_count p) c ≤ n
-  opened_stays own i c e = by (get_set s.stages w i new (stage.Open c) e)
-    where
-      by : (new ≡ stage.Open c) ⊎ (slice_get s.stages i ≡ Some (stage.Open c)) → phase_start (node_count p) c ≤ n
-      by (inl same) = own c same
-      by (inr was) = omega (arith, more, k.opened i c was)
-
-module _ (p : Plan) (s : Claims) (k : Kept p s) (w : ℕ) where
-  -- a number is drawn
-  module _ (idle : slice_get s.stages w ≡ Some stage.Idle) (few : s.drawn < unit_count p) where
-    abbrev pub drawn_now : Claims
-    drawn_now = record (with_stage s w (stage.Held s.drawn)) { drawn = suc s.drawn }
-
-    this : drawn_in p s ≡ s.drawn
-    this = min_low s.drawn (unit_count p) (omega (arith, few))
-
-    next : drawn_in p drawn_now ≡ suc (drawn_in p s)
-    next = min_low (suc s.drawn) (unit_count p) (omega (arith, few)) ∙ ap (λ n. suc n) (sym this)
-
-    held_more : (x : ℕ) → held_in drawn_now x ≡ held_in s x + is_at x (drawn_in p s)
-    held_more x = let e : held_in drawn_now x + 0 ≡ held_in s x + is_at x s.drawn = held_set s.stages w stage.Idle (stage.Held s.drawn) x idle in
-        omega (arith, e, ap (λ n. is_at x n) this)
-
-    draws : Claimed (node_count p) (suc (drawn_in p s)) (finished p s) (done_in p s) (held_in drawn_now)
-    draws = draw (node_count p) (drawn_in p s) (finished p s) (done_in p s) (held_in s) k.claimed
-        (suc (drawn_in p s)) (held_in drawn_now) (omega arith)
-        (λ x. omega (arith, held_more x, among_one (drawn_in p s) x))
-
-    pub done_same : (x : ℕ) → done_in p drawn_now x ≡ done_in p s x
-    done_same x = omega (arith, done_is p drawn_now x, ap (λ b. once_below x b) next, draws.once x)
-
-    finished_same : finished p drawn_now ≡ finished p s
-    finished_same = sum_of p drawn_now ∙ below_same (done_in p drawn_now) (done_in p s) (drawn_in p drawn_now) (λ x l. done_same x) ∙ ap (λ b. below b (done_in p s)) next ∙ sym draws.sum
-
-    pub drawn_kept : Kept p drawn_now
-    drawn_kept = record {
-      claimed = claimed_same (node_count p) (suc (drawn_in p s)) (finished p s) (drawn_in p drawn_now) (finished p drawn_now) (done_in p s) (held_in drawn_now) (done_in p drawn_now) (held_in drawn_now) draws next finished_same done_same (λ x. refl);
-      opened = opened_stays p s k (finished p drawn_now) (omega (arith, finished_same)) w (stage.Held s.drawn) (λ c e. absurd (not_held s.drawn c e));
-    }
-
-  -- there is none
-  pub ended_kept : slice_get s.stages w ≡ Some stage.Idle → unit_count p ≤ s.drawn → Kept p (record (with_stage s w stage.Ended) { drawn = suc s.drawn })
-  ended_kept idle all =
-      let s' : Claims = record (with_stage s w stage.Ended) { drawn = suc s.drawn } in
-      let g : drawn_in p s' ≡ drawn_in p s = min_high (suc s.drawn) (unit_count p) (omega (arith, all)) ∙ sym (min_high s.drawn (unit_count p) all) in
-      let h : (x : ℕ) → held_in s' x ≡ held_in s x = λ x. (let e : held_in s' x + 0 ≡ held_in s x + 0 = held_set s.stages w stage.Idle stage.Ended x idle in omega (arith, e)) in
-      record {
-        claimed = claimed_stays p s s' g h k;
-        opened = opened_stays p s k (finished p s') (omega (arith, finished_stays p s s' g h)) w stage.Ended (λ c e. absurd (not_ended c e));
-      }
-
-  -- a held unit is opened
-  pub opened_kept : (u : ℕ) → slice_get s.stages w ≡ Some (stage.Held u) → phase_start (node_count p) u ≤ finished p s → Kept p (with_stage s w (stage.Open u))
-  opened_kept u held may =
-      let s' : Claims = with_stage s w (stage.Open u) in
-      let h : (x : ℕ) → held_in s' x ≡ held_in s x = λ x. (let e : held_in s' x + is_at x u ≡ held_in s x + is_at x u = held_set s.stages w (stage.Held u) (stage.Open u) x held in omega (arith, e)) in
-      let n : finished p s' ≡ finished p s = finished_stays p s s' refl h in
-      record {
-        claimed = claimed_stays p s s' refl h k;
-        opened = opened_stays p s k (finished p s') (omega (arith, n)) w (stage.Open u) (λ c e. omega (arith, may, n, ap (λ x. phase_start (node_count p) x) (open_is u c e)));
-      }
-
-  -- an open unit is finished
-  module _ (c : ℕ) (out : slice_get s.stages w ≡ Some (stage.Open c)) where
-    abbrev pub finished_now : Claims
-    finished_now = with_stage s w stage.Idle
-
-    held_less : (x : ℕ) → held_in finished_now x + is_at x c ≡ held_in s x
-    held_less x = let e : held_in finished_now x + is_at x c ≡ held_in s x + 0 = held_set s.stages w (stage.Open c) stage.Idle x out in omega (arith, e)
-
-    pub is_held : 1 ≤ held_in s c
-    is_held = let one : is_at c c ≡ 1 = self c in omega (arith, held_less c, one)
-      where
-        self : (y : ℕ) → is_at y y ≡ 1
-        self y = grind (arith, nat_tests)
-
-    pub in_phase : (phase_start (node_count p) (finished p s) ≤ c) × (c < phase_end (node_count p) (finished p s))
-    in_phase = open_now (node_count p) (drawn_in p s) (finished p s) (done_in p s) (held_in s) k.claimed c is_held (k.opened w c out)
-
-    pub done_more : (x : ℕ) → done_in p finished_now x ≡ done_in p s x + is_at x c
-    done_more x = omega (arith, done_is p finished_now x, held_less x, k.claimed.once x)
-
-    is_drawn : c < drawn_in p s
-    is_drawn = once_in c (drawn_in p s) (omega (arith, k.claimed.once c, is_held))
-
-    finishes : Claimed (node_count p) (drawn_in p s) (finished p s + 1) (done_in p finished_now)
-        (held_in finished_now)
-    finishes = finish (node_count p) (drawn_in p s) (finished p s) (done_in p s) (held_in s)
-        k.claimed (among c (suc c)) 1
-        (omega (
-          arith,
-          below_among c (suc c) (drawn_in p s) (omega arith)
-              (omega (arith, is_drawn)),
-        ))
-        (λ x h. omega (arith, is_among c (suc c) x h, in_phase))
-        (done_in p finished_now) (held_in finished_now)
-        (λ x. omega (arith, done_more x, among_one c x))
-        (λ x. omega (arith, held_less x, among_one c x))
-
-    pub one_more : finished p finished_now ≡ suc (finished p s)
-    one_more = omega (arith, sum_of p finished_now, finishes.sum)
-
-    pub finished_kept : Kept p finished_now
-    finished_kept = record {
-      claimed = claimed_same (node_count p) (drawn_in p s) (finished p s + 1) (drawn_in p s)
-          (finished p finished_now) (done_in p finished_now) (held_in finished_now)
-          (done_in p finished_now) (held_in finished_now) finishes refl (omega (arith, one_more))
-          (λ x. refl) (λ x. refl);
-      opened = opened_stays p s k (finished p finished_now) (omega (arith, one_more)) w stage.Idle (λ d e. absurd (not_idle d e));
-    }
+  pub kept_by : ((w : ℕ) (x : Stage) → slice_get s.stages w ≡ Some x → Fits (node_count p) n x)
+      → s.drawn ≤ unit_count p + MOST_CHUNK * (1 + total has_ended s.stages) → Kept p s
+  kept_by each few = record {
+    claimed = record {
+      once = λ x. omega (arith, c.once x, done_are x);
+      sum = sum_of p s;
+      before = λ x l. (let low : x < phase_start (node_count p) n =
+          subst (λ m. x < phase_start (node_count p) m) finished_are l in
+          omega (arith, c.before x low, done_are x));
+      after = λ x l. (let high : phase_end (node_count p) n ≤ x =
+          subst (λ m. phase_end (node_count p) m ≤ x) finished_are l in
+          omega (arith, c.after x high, done_are x));
+    };
+    each = λ w x e. subst (λ m. Fits (node_count p) m x) (sym finished_are) (each w x e);
+    few = few;
+  }
 
 module _ (p : Plan) (s : Claims) (k : Kept p s) where
-  claim_kept : (w : ℕ) (o : Option Stage) → slice_get s.stages w ≡ o → Kept p (claim_by p s w o).claims
-  claim_kept w None e = k
-  claim_kept w (Some stage.Idle) e = by (nat_lt s.drawn (unit_count p)) (λ b. below_of s.drawn (unit_count p) b) (λ b. past_of s.drawn (unit_count p) b)
-    where
-      below_of : (a b : ℕ) → nat_lt a b ≡ true → a < b
-      below_of a b h = grind (arith, nat_tests)
+  abbrev N : ℕ
+  N = node_count p
 
-      past_of : (a b : ℕ) → nat_lt a b ≡ false → b ≤ a
-      past_of a b h = grind (arith, nat_tests)
+  abbrev n : ℕ
+  n = finished p s
 
-      by : (b : Bool) → (b ≡ true → s.drawn < unit_count p) → (b ≡ false → unit_count p ≤ s.drawn)
-          → Kept p (cond {A = Effect} b (record {
-            claims = record (with_stage s w (stage.Held s.drawn)) { drawn = suc s.drawn };
-            outcome = outcomes.Given s.drawn;
-          })
-          (record {
-            claims = record (with_stage s w stage.Ended) { drawn = suc s.drawn };
-            outcome = outcomes.Over s.drawn;
-          })).claims
-      by true few all = drawn_kept p s k w e (few refl)
-      by false few all = ended_kept p s k w e (all refl)
-  claim_kept w (Some (stage.Held c)) e = k
-  claim_kept w (Some (stage.Open c)) e = k
-  claim_kept w (Some stage.Ended) e = k
+  abbrev g : ℕ
+  g = drawn_in p s
 
-  open_kept : (w : ℕ) (o : Option Stage) → slice_get s.stages w ≡ o → Kept p (open_by p s w o).claims
-  open_kept w None e = k
-  open_kept w (Some stage.Idle) e = k
-  open_kept w (Some (stage.Held c)) e = by (may_open p s c) (λ b. at_most (phase_start (node_count p) c) (finished p s) b)
-    where
-      at_most : (a b : ℕ) → nat_le a b ≡ true → a ≤ b
-      at_most a b h = grind (arith, nat_tests)
+  -- a number that a worker holds was drawn, and is held
+  pub is_held : (w : ℕ) (x : Stage) (c : ℕ) → slice_get s.stages w ≡ Some x
+      → 1 ≤ among (first_in x) (held_end x) c → (1 ≤ held_in s c) × (c < g)
+  is_held w x c e h =
+      let one : 1 ≤ held_in s c = omega (arith, h, held_at s.stages w x c e) in
+      (one, once_in c g (omega (arith, k.claimed.once c, one)))
 
-      by : (b : Bool) → (b ≡ true → phase_start (node_count p) c ≤ finished p s)
-          → Kept p (cond {A = Effect} b (record { claims = with_stage s w (stage.Open c); outcome = outcomes.Done }) (record { claims = s; outcome = outcomes.NotYet (finished p s) })).claims
-      by true may = opened_kept p s k w c e (may refl)
-      by false may = k
-  open_kept w (Some (stage.Open c)) e = k
-  open_kept w (Some stage.Ended) e = k
+  -- a worker draws numbers, or opens those that it has: no unit is finished
+  module _ (w d : ℕ) (old new : Stage) (out : slice_get s.stages w ≡ Some old) (le : s.drawn ≤ d)
+      (more : (x : ℕ) → among (first_in new) (held_end new) x
+      ≡ among (first_in old) (held_end old) x + among g (min d (unit_count p)) x) where
+    drawn : Claimed N (min d (unit_count p)) n (done_in p s) (held_in (moved_to s w new d))
+    drawn = draw N g n (done_in p s) (held_in s) k.claimed (min d (unit_count p))
+        (held_in (moved_to s w new d)) (omega (arith, le))
+        (λ x. omega (arith, held_set s.stages w old new x out, more x))
 
-  finish_kept : (w : ℕ) (o : Option Stage) → slice_get s.stages w ≡ o → Kept p (finish_by s w o).claims
-  finish_kept w None e = k
-  finish_kept w (Some stage.Idle) e = k
-  finish_kept w (Some (stage.Held c)) e = k
-  finish_kept w (Some (stage.Open c)) e = finished_kept p s k w c e
-  finish_kept w (Some stage.Ended) e = k
+    pub same_done : (x : ℕ) → done_in p (moved_to s w new d) x ≡ done_in p s x
+    same_done = done_are p (moved_to s w new d) n (done_in p s) drawn
+
+    pub then_kept : Fits N n new
+        → d ≤ unit_count p + MOST_CHUNK * (1 + total has_ended (slice_set s.stages w new))
+        → Kept p (moved_to s w new d)
+    then_kept fits few = kept_by p (moved_to s w new d) n (done_in p s) drawn
+        (λ j x e. ⊎_elim (λ same. subst (λ y. Fits N n y) same fits) (λ was. k.each j x was)
+        (get_set s.stages w j new x e)) few
+
+  -- numbers are drawn
+  module _ (w many : ℕ) (new : Stage) (o : Outcome) (idle : slice_get s.stages w ≡ Some stage.Idle)
+      (d : IsDrawn p s many new o) where
+    abbrev drawn_now : Claims
+    drawn_now = moved_to s w new (s.drawn + many)
+
+    more : (x : ℕ) → among (first_in new) (held_end new) x
+        ≡ among 0 0 x + among g (min (s.drawn + many) (unit_count p)) x
+    more x = omega (arith, d.held x, among_none 0 x)
+
+    pub draw_done : (x : ℕ) → done_in p drawn_now x ≡ done_in p s x
+    draw_done = same_done w (s.drawn + many) stage.Idle new idle (omega arith) more
+
+    pub draw_kept : many ≤ MOST_CHUNK → Kept p drawn_now
+    draw_kept most =
+        let t = total_slice has_ended s.stages w stage.Idle new idle in
+        then_kept w (s.drawn + many) stage.Idle new idle (omega arith) more (d.fits N n)
+        (dite (dec_le (unit_count p) s.drawn)
+        (λ all. omega (arith, k.few, t, most, d.past all))
+        (λ some_left. let lt : s.drawn < unit_count p = lt_of_not-le some_left in
+        omega (arith, lt, most)))
+
+  -- held ones are opened, up to the end of the first one's phase
+  module _ (w a b : ℕ) (out : slice_get s.stages w ≡ Some (stage.Held a b)) where
+    lt : a < b
+    lt = k.each w (stage.Held a b) out
+
+    pub held_first : (1 ≤ held_in s a) × (a < g)
+    held_first = is_held w (stage.Held a b) a out (omega (arith, among_in a b a (omega arith) lt))
+
+    abbrev opened : Stage
+    opened = with_open N (stage.Held a b)
+
+    none_more : (x : ℕ) → among a b x ≡ among a b x + among g g x
+    none_more x = omega (arith, among_none g x)
+
+    pub open_done : (x : ℕ) → done_in p (with_stage s w opened) x ≡ done_in p s x
+    open_done = same_done w s.drawn (stage.Held a b) opened out (omega arith) none_more
+
+    module _ (may : phase_start N a ≤ n) where
+      fits : Fits N n opened
+      fits =
+          let now = open_now N g n (done_in p s) (held_in s) k.claimed a held_first.0 may in (
+            omega (arith, lt, lt_stop N a),
+            omega arith,
+            now.0,
+            omega (arith, same_stop N n a now.0 now.1),
+          )
+
+      pub open_kept : Kept p (with_stage s w opened)
+      open_kept = then_kept w s.drawn (stage.Held a b) opened out (omega arith) none_more fits
+          (omega (arith, k.few, total_slice has_ended s.stages w (stage.Held a b) opened out))
+
+  -- the open ones are finished
+  module _ (w a m b : ℕ) (out : slice_get s.stages w ≡ Some (stage.Open a m b)) where
+    abbrev pub finished_now : Claims
+    finished_now = with_stage s w (left_of (stage.Open a m b))
+
+    pub fits_open : Fits N n (stage.Open a m b)
+    fits_open = k.each w (stage.Open a m b) out
+
+    pub open_held : (c : ℕ) → a ≤ c → c < m → (1 ≤ held_in s c) × (c < g)
+    open_held c lo hi = is_held w (stage.Open a m b) c out
+        (omega (arith, among_in a b c lo (omega (arith, hi, fits_open.1))))
+
+    abbrev then_done : ℕ → ℕ
+    then_done x = done_in p s x + among a m x
+
+    less : (x : ℕ) → held_in finished_now x + among a m x ≡ held_in s x
+    less x = omega (
+      arith,
+      held_set s.stages w (stage.Open a m b) (left_of (stage.Open a m b)) x out,
+      held_left a m b x,
+      among_two a m b x (omega (arith, fits_open.0)) fits_open.1,
+    )
+
+    count : m - a ≡ below g (among a m)
+    count =
+        let last : m - 1 < g = (open_held (m - 1) (omega (arith, fits_open.0))
+        (omega (arith, fits_open.0))).1 in
+        sym (below_among a m g (omega (arith, fits_open.0)) (omega (arith, last, fits_open.0)))
+
+    inside : (x : ℕ) → 1 ≤ among a m x → x < phase_end N n
+    inside x h = omega (arith, (is_among a m x h).1, fits_open.3)
+
+    step : Claimed N g (n + (m - a)) then_done (held_in finished_now)
+    step = finish N g n (done_in p s) (held_in s) k.claimed (among a m) (m - a) count inside
+        then_done (held_in finished_now) (λ x. refl) less
+
+    pub done_more : (x : ℕ) → done_in p finished_now x ≡ then_done x
+    done_more = done_are p finished_now (n + (m - a)) then_done step
+
+    pub more_finished : finished p finished_now ≡ n + (m - a)
+    more_finished = finished_are p finished_now (n + (m - a)) then_done step
+
+    -- what other workers have open is of the same phase still
+    stays : (j : ℕ) (x : Stage) → slice_get finished_now.stages j ≡ Some x → Fits N n x
+        → Fits N (n + (m - a)) x
+    stays j stage.Idle e f = tt
+    stays j (stage.Held c d) e f = f
+    stays j stage.Ended e f = tt
+    stays j (stage.Open c l d) e f = dite (dec_le (phase_end N n) (n + (m - a)))
+        (λ last. let over : phase_end N n ≡ n + (m - a) = omega (
+          arith,
+          last,
+          not_past N g n (done_in p s) (held_in s) k.claimed (among a m) (m - a) count inside
+              then_done (held_in finished_now) (λ x. refl) less,
+        ) in
+        let none = none_held N g n (done_in p s) (held_in s) k.claimed (among a m) (m - a) count
+        inside then_done (held_in finished_now) (λ x. refl) less over c
+        (omega (arith, f.0, f.3)) in
+        absurd (omega (
+          arith,
+          none,
+          held_at finished_now.stages j (stage.Open c l d) c e,
+          among_in c d c (omega arith) (omega (arith, f.0, f.1)),
+        )))
+        (λ rest. let lt : n + (m - a) < phase_end N n = lt_of_not-le rest in
+        let from = same_start N n (n + (m - a)) (omega (arith, start_le N n)) lt in
+        let to = same_stop N n (n + (m - a)) (omega (arith, start_le N n)) lt in
+        (f.0, f.1, omega (arith, f.2, from), omega (arith, f.3, to)))
+
+    pub finished_kept : Kept p finished_now
+    finished_kept = kept_by p finished_now (n + (m - a)) then_done step
+        (λ j x e. stays j x e (⊎_elim
+        (λ same. subst (λ y. Fits N n y) same (left_by (λ y. Fits N n y) a m b (λ lt. lt) (λ _. tt)))
+        (λ was. k.each j x was)
+        (get_set s.stages w j (left_of (stage.Open a m b)) x e)))
+        (omega (
+          arith,
+          k.few,
+          total_slice has_ended s.stages w (stage.Open a m b) (left_of (stage.Open a m b)) out,
+        ))
 
   pub step_kept : (e : Event) → Kept p (step_machine p s e)
-  unfolding effect_of
-  step_kept (event.Claim w) = claim_kept w (slice_get s.stages w) refl
-  step_kept (event.Open w) = open_kept w (slice_get s.stages w) refl
-  step_kept (event.Finish w) = finish_kept w (slice_get s.stages w) refl
+  step_kept = step_by p s (λ _ f. Kept p f.claims) (λ e o _. k)
+      (λ e w many new o _ idle most d. draw_kept w many new o idle d most)
+      (λ w a b out may. open_kept w a b out may)
+      (λ w a m b out. finished_kept w a m b out)
 
-none_at : (workers x : ℕ) → total (λ y. one_if (holds_unit x y)) (repeat workers (stage.Idle ∷ [])) ≡ 0
-none_at zero x = refl
-none_at (suc workers) x = omega (arith, none_at workers x)
-
-idle_at : (workers w c : ℕ) → slice_get (repeat workers (stage.Idle ∷ [])) w ≡ Some (stage.Open c) → ⊥
-idle_at zero w c e = cc
-idle_at (suc workers) zero c e = cc
-idle_at (suc workers) (suc w) c e = idle_at workers w c e
+  -- none but a finish finishes units
+  pub others_finish_none : (e : Event) → is_finish e ≡ false
+      → (x : ℕ) → done_in p (step_machine p s e) x ≡ done_in p s x
+  others_finish_none = step_by p s
+      (λ e f. is_finish e ≡ false → (x : ℕ) → done_in p f.claims x ≡ done_in p s x)
+      (λ e o _ _ x. refl)
+      (λ e w many new o _ idle most d _. draw_done w many new o idle d)
+      (λ w a b out _ _. open_done w a b out)
+      (λ w a m b out h. cc)
 
 -- at the start
-pub start_kept : (p : Plan) (workers : ℕ) → Kept p (all_idle workers)
-start_kept p workers =
-    let s : Claims = all_idle workers in
-    let g : drawn_in p s ≡ 0 = min_low 0 (unit_count p) (omega arith) in
-    let h : (x : ℕ) → held_in s x ≡ 0 = λ x. count_is (holds_unit x) s.stages ∙ none_at workers x in
-    let d : (x : ℕ) → done_in p s x ≡ 0 = λ x. none_past p s x (omega (arith, g)) in
-    let o : (x : ℕ) → once_below x (drawn_in p s) ≡ 0 = λ x. (let z : once_below x 0 ≡ 0 = none x in ap (λ b. once_below x b) g ∙ z) in
-    let n : finished p s ≡ 0 = sum_of p s ∙ ap (λ b. below b (done_in p s)) g in
-    record {
-      claimed = record {
-        once = λ x. omega (arith, d x, h x, o x);
-        sum = sum_of p s;
-        before = λ x l. absurd (omega (arith, l, ap (λ m. phase_start (node_count p) m) n, start_le (node_count p) 0));
-        after = λ x l. d x;
-      };
-      opened = λ w c e. absurd (idle_at workers w c e);
-    }
-  where
-    none : (x : ℕ) → once_below x 0 ≡ 0
-    none x = grind (arith, nat_tests)
+none_at : (workers x : ℕ) → total (λ s. among (first_in s) (held_end s) x) (repeat workers (stage.Idle ∷ [])) ≡ 0
+none_at zero x = refl
+none_at (suc workers) x = omega (arith, none_at workers x, among_none 0 x)
 
-pub run_kept : (p : Plan) (events : List Event) (s : Claims) → Kept p s → Kept p (run_machine p events s)
+idle_at : (workers w : ℕ) (x : Stage) (N n : ℕ)
+    → slice_get (repeat workers (stage.Idle ∷ [])) w ≡ Some x → Fits N n x
+idle_at zero w x N n e = absurd (cc)
+idle_at (suc workers) zero x N n e = subst (λ y. Fits N n y) (some_is stage.Idle x e) tt
+idle_at (suc workers) (suc w) x N n e = idle_at workers w x N n e
+
+module _ (p : Plan) (workers : ℕ) where
+  none_claimed : Claimed (node_count p) (drawn_in p (all_idle workers)) 0 (λ x. 0)
+      (held_in (all_idle workers))
+  none_claimed =
+      let s : Claims = all_idle workers in
+      let g : drawn_in p s ≡ 0 = omega arith in
+      record {
+        once = λ x. omega (
+          arith,
+          held_by_all x s.stages,
+          none_at workers x,
+          once_out x (drawn_in p s) (omega (arith, g)),
+        );
+        sum = sym (below_none (λ x. 0) (drawn_in p s) (λ x _. refl));
+        before = λ x l. absurd (omega (arith, l, start_le (node_count p) 0));
+        after = λ x _. refl;
+      }
+
+  pub none_done : (x : ℕ) → done_in p (all_idle workers) x ≡ 0
+  none_done = done_are p (all_idle workers) 0 (λ x. 0) none_claimed
+
+  pub none_finished : finished p (all_idle workers) ≡ 0
+  none_finished = finished_are p (all_idle workers) 0 (λ x. 0) none_claimed
+
+  start_kept : Kept p (all_idle workers)
+  start_kept = kept_by p (all_idle workers) 0 (λ x. 0) none_claimed
+      (λ w x e. idle_at workers w x (node_count p) 0 e) (omega arith)
+
+run_kept : (p : Plan) (events : List Event) (s : Claims) → Kept p s → Kept p (run_machine p events s)
 unfolding run_machine
 run_kept p [] s k = k
 run_kept p (e ∷ events) s k = run_kept p events (step_machine p s e) (step_kept p s k e)
 
 -- after every list of events
-pub always_kept : (p : Plan) (workers : ℕ) (events : List Event) → Kept p (run_machine p events (all_idle workers))
+pub always_kept : (p : Plan) (workers : ℕ) (events : List Event)
+    → Kept p (run_machine p events (all_idle workers))
 always_kept p workers events = run_kept p events (all_idle workers) (start_kept p workers)
+
+pub kept_of : (p : Plan) (s : Claims) → AreReached p s → Kept p s
+kept_of p s r = subst (λ x. Kept p x) (sym r.claims) (always_kept p r.workers r.events)
+
+few_ended : (stages : List Stage) → total has_ended stages ≤ length stages
+few_ended [] = omega arith
+few_ended (x ∷ xs) = omega (arith, one x, few_ended xs)
+  where
+    one : (x : Stage) → has_ended x ≤ 1
+    one stage.Idle = omega arith
+    one (stage.Held a b) = omega arith
+    one (stage.Open a m b) = omega arith
+    one stage.Ended = omega arith
+
+pub drawn_most : (p : Plan) (s : Claims) → AreReached p s
+    → s.drawn ≤ unit_count p + MOST_CHUNK * (1 + length s.stages)
+drawn_most p s r = omega (arith, (kept_of p s r).few, few_ended s.stages)

@@ -4,7 +4,8 @@ pub mod Phases
 pub mod Runs
 pub mod Claimed
 pub mod Counts
-pub mod AsWorkers
+pub mod Holds
+pub mod Steps
 pub mod Events
 pub mod Stages
 pub mod Parts
@@ -13,7 +14,7 @@ pub mod Apart
 pub mod ByPlace
 pub mod Working
 pub mod Effects
-pub mod Ended
+pub mod Finishing
 pub mod Inside
 pub mod AtStart
 pub mod Places

@@ -1,5 +1,5 @@
 -- Numbers in a row.
-use Rattle.std.proofs.Common.{◌≡◌, ℕ, zero, suc, ◌+◌, ◌-◌, ◌<◌, ◌≤◌, [], ◌∷◌, ◌++◌, length, refl, sym, ap, ◌∙◌, lt_of_not-le, arith}
+use Rattle.std.proofs.Common.{◌≡◌, ℕ, zero, suc, ◌+◌, ◌-◌, ◌<◌, ◌≤◌, [], length, refl, sym, ap, ◌∙◌, lt_of_not-le, arith}
 use Rattle.std.proofs.lemmas.Bool.Decides.{nat_tests}
 use mathlib.Core.Logic.{dite}
 use native.Mathlib.Decide.{dec_le}
@@ -15,9 +15,6 @@ among_low a b x lo = grind (arith, nat_tests)
 
 pub among_high : (a b x : ℕ) → b ≤ x → among a b x ≡ 0
 among_high a b x hi = grind (arith, nat_tests)
-
-pub among_le : (a b x : ℕ) → among a b x ≤ 1
-among_le a b x = grind (arith, nat_tests)
 
 pub is_among : (a b x : ℕ) → 1 ≤ among a b x → (a ≤ x) × (x < b)
 is_among a b x h = (grind (arith, nat_tests), grind (arith, nat_tests))
@@ -97,23 +94,3 @@ length-numbers a b = length-run a (b - a)
 
 pub numbers_none : (a : ℕ) → numbers a a ≡ []
 numbers_none a = ap (λ m. run a m) (let e : a - a ≡ 0 = omega arith in e)
-
-pub numbers_first : (a b : ℕ) → a < b → numbers a b ≡ a ∷ numbers (suc a) b
-numbers_first a b lt = ap (λ m. run a m) (let e : b - a ≡ suc (b - suc a) = omega (arith, lt) in e)
-
-run_last : (a many : ℕ) → run a (suc many) ≡ run a many ++ (a + many) ∷ []
-run_last a zero = ap (λ x. x ∷ []) (let e : a ≡ a + 0 = omega arith in e)
-run_last a (suc many) =
-    ap (λ xs. a ∷ xs) (run_last (suc a) many)
-    ∙ ap (λ x. a ∷ (run (suc a) many ++ x ∷ []))
-    (let e : suc a + many ≡ a + suc many = omega arith in e)
-
-pub numbers_last : (a b : ℕ) → a ≤ b → numbers a (suc b) ≡ numbers a b ++ b ∷ []
-numbers_last a b le =
-    ap (λ m. run a m) (let e : suc b - a ≡ suc (b - a) = omega (arith, le) in e)
-    ∙ run_last a (b - a)
-    ∙ ap (λ x. numbers a b ++ x ∷ []) (let e : a + (b - a) ≡ b = omega (arith, le) in e)
-
--- what holds of each of them
-pub in_run : (a b u : ℕ) → 1 ≤ times u (numbers a b) → a ≤ b → (a ≤ u) × (u < b)
-in_run a b u h le = is_among a b u (omega (arith, h, times_numbers a b u le))

@@ -16,6 +16,7 @@ use Rattle.dta_model.specs.declared.machine.Stage.TheVariants as stage
 use Rattle.dta_model.specs.declared.plan.Plan.{Plan}
 use Rattle.cell_stages.specs.Contents.{away, cell_at, cell_before, mail_at, room_of}
 use Rattle.claim_core.specs.Parts.{stage_in}
+use Rattle.claim_core.specs.Runs.{numbers}
 
 -- it holds of the claims after every list of events, of every loading and any number of workers
 abbrev pub Always : (Plan → Claims → Type 0) → Type 0
@@ -41,12 +42,12 @@ abbrev pub LaterAreNot : Plan → Claims → Type 0
 LaterAreNot p s =
     (u : ℕ) → phase_end (node_count p) (finished p s) ≤ u → is_finished p s u ≡ false
 
--- an open unit is of this phase
+-- the open units are of this phase
 abbrev pub OpenAreOfThePhase : Plan → Claims → Type 0
 OpenAreOfThePhase p s =
-    (w c : ℕ) → slice_get s.stages w ≡ Some (stage.Open c)
-    → (phase_start (node_count p) (finished p s) ≤ c)
-    × (c < phase_end (node_count p) (finished p s))
+    (w a m b : ℕ) → slice_get s.stages w ≡ Some (stage.Open a m b)
+    → (phase_start (node_count p) (finished p s) ≤ a)
+    × (m ≤ phase_end (node_count p) (finished p s))
 
 -- where exactly so many whole steps are finished, all cells and mail are those of the plain
 -- loading after these steps
@@ -58,14 +59,15 @@ PartsAreOfWholeSteps p s =
     → mail_at p l (stage_in p s (mail_part p l)) ≡ room_of p t l)
 
 -- the numbers that were given are those from 0 on, in this order and each once
-abbrev pub number_given : Outcome → List ℕ
-number_given (outcomes.Given u) = u ∷ []
-number_given _ = []
+abbrev pub numbers_given : Outcome → List ℕ
+numbers_given (outcomes.Given u) = u ∷ []
+numbers_given (outcomes.GivenChunk a b) = numbers a b
+numbers_given _ = []
 
 abbrev pub NumbersRise : Type 0
 NumbersRise =
     (p : Plan) (workers : ℕ) (events : List Event)
-    → flat_map number_given (outcomes_of p events (all_idle workers))
+    → flat_map numbers_given (outcomes_of p events (all_idle workers))
     ≡ numbers_below (min (run_machine p events (all_idle workers)).drawn (unit_count p))
 
 -- two units whose phase begins at the same unit are of one phase. Where they have a place in

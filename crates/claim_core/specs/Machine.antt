@@ -26,6 +26,7 @@ HasParts m = AreAtStages m.plan (stage_in m.plan m.claims) m.parts
 -- the worker of an event
 abbrev pub worker_of : Event → ℕ
 worker_of (event.Claim w) = w
+worker_of (event.ClaimChunk w many) = w
 worker_of (event.Open w) = w
 worker_of (event.Finish w) = w
 

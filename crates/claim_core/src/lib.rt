@@ -1,10 +1,11 @@
 //! The units of a loading, claimed by workers.
 //!
 //! Each step of a loading has a unit for the transfer of each node, one for each node's gather,
-//! and one for the posting of the state. Workers claim them by number, in any order of events. The
-//! laws say what holds after every list of events: each unit is given once, no phase of a step
-//! begins before the earlier ones are finished, and where whole steps are finished the parts are
-//! those of the plain loading.
+//! and one for the posting of the state. Workers claim them by number, in any order of events. A
+//! claim may draw several numbers in a row, a chunk. Its worker opens them phase by phase, and
+//! finishes those of one phase together. The laws say what holds after every list of events: each
+//! unit is given once, no phase of a step begins before the earlier ones are finished, and where
+//! whole steps are finished the parts are those of the plain loading.
 #![tactic(auto)]
 
 mod claims;

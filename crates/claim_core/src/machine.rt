@@ -12,7 +12,7 @@ use node_transfer::{Mail, NodeCell, opening};
 use std::alloc::Global;
 use std::marker::Model;
 
-/// A loading whose units are claimed by workers, as a machine of three events.
+/// A loading whose units are claimed by workers, one or several at a time, as a machine of events.
 #[derive(Drop)]
 pub struct Machine<'a> {
     loading: Loading<'a>,
@@ -74,6 +74,9 @@ impl<'a> Machine<'a> {
     {
         match event {
             Event::Claim(worker) => self.workers.claim(&self.loading, worker),
+            Event::ClaimChunk { worker, many } => {
+                self.workers.claim_chunk(&self.loading, worker, many)
+            }
             Event::Open(worker) => self.workers.open(&self.loading, self.finished, worker),
             Event::Finish(worker) => self.workers.finish(
                 &self.loading,

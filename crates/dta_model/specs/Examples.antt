@@ -450,3 +450,18 @@ one_worker-finished :
     finished two_nodes (run_machine two_nodes (repeat 5 one_round) (all_idle 1)) ≡ 5
 unfolding claims_on_literals loadings_on_literals two_links_in_a_line two_nodes
 one_worker-finished = refl
+
+-- two workers that claim chunks: the first one's goes over the end of the phase, so that it opens
+-- the two units of the first phase, and the other two once it has finished these
+two_chunks :
+    outcomes_of two_nodes
+    (event.ClaimChunk 0 4 ∷ event.ClaimChunk 1 4 ∷ event.Open 1 ∷ event.Open 0 ∷ event.Open 0
+    ∷ event.Finish 0 ∷ event.Open 1 ∷ event.Open 0 ∷ event.Finish 0 ∷ event.Open 1 ∷ event.Finish 1
+    ∷ event.ClaimChunk 1 257 ∷ event.ClaimChunk 1 0 ∷ event.ClaimChunk 1 2 ∷ [])
+    (all_idle 2)
+    ≡ outcomes.GivenChunk 0 4 ∷ outcomes.GivenChunk 4 5 ∷ outcomes.NotYet 0 ∷ outcomes.Done
+    ∷ outcomes.Misplaced ∷ outcomes.Done ∷ outcomes.NotYet 2 ∷ outcomes.Done ∷ outcomes.Done
+    ∷ outcomes.Done ∷ outcomes.Done ∷ outcomes.Misplaced ∷ outcomes.Misplaced ∷ outcomes.Over 8
+    ∷ []
+unfolding claims_on_literals loadings_on_literals two_links_in_a_line two_nodes
+two_chunks = refl

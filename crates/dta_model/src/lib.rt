@@ -27,7 +27,7 @@ pub use laws::{
 };
 pub use loaded::{Journey, Loaded, Steps};
 pub use loading::{Loading, MOST_HORIZON, MOST_LINK_STEPS};
-pub use machine::{Event, Outcome, Stage};
+pub use machine::{Event, MOST_CHUNK, Outcome, Stage};
 pub use plan::Plan;
 pub use queue::{MOST_WAVE, Queue};
 pub use routes::{Route, Routes};

@@ -1,15 +1,19 @@
 // How the units of a loading are claimed by workers, as plain data. A step with n nodes has 2 n +
 // 1 units: a transfer of each node, a gather of each node, and a posting of the state.
 
-/// What a worker has.
+/// The most numbers that a claim can draw.
+pub const MOST_CHUNK: u32 = 256;
+
+/// What a worker has of the units. The numbers that one claim drew are a chunk: they stand in a
+/// row.
 #[derive(Clone, Copy, Debug, PartialEq, Eq, Drop)]
 pub enum Stage {
     /// No unit.
     Idle,
-    /// The unit of this number, not yet open.
-    Held(u64),
-    /// The unit of this number, open.
-    Open(u64),
+    /// The units from the first number to below the second, none of them open.
+    Held(u64, u64),
+    /// Open ones, from the first number to below the second, and others up to below the third.
+    Open(u64, u64, u64),
     /// No unit, and none will come: all were drawn.
     Ended,
 }
@@ -19,9 +23,12 @@ pub enum Stage {
 pub enum Event {
     /// The next unit.
     Claim(u32),
-    /// To begin the unit that it holds.
+    /// The next units, as many as this, of which there is at least one and no more than
+    /// [`MOST_CHUNK`].
+    ClaimChunk { worker: u32, many: u32 },
+    /// To begin the units that it holds, up to the end of the first one's phase.
     Open(u32),
-    /// To end the unit that it has open.
+    /// To end the units that it has open.
     Finish(u32),
 }
 
@@ -30,9 +37,11 @@ pub enum Event {
 pub enum Outcome {
     /// It holds the unit of this number.
     Given { number: u64 },
-    /// Its unit is open, or finished.
+    /// It holds the units from the first number to below the end.
+    GivenChunk { first: u64, end: u64 },
+    /// Its units are open, or finished.
     Done,
-    /// Its unit may not be opened yet: so many units are finished.
+    /// Its units may not be opened yet: so many units are finished.
     NotYet { finished: u64 },
     /// The number that it drew is that of no unit. It has ended.
     Over { number: u64 },

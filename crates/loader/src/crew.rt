@@ -2,19 +2,19 @@
 ghost use Rattle.std.specs.Prelude.{◌≡◌, ◌<◌, ◌≤◌, ◌+◌, ◌-◌};
 ghost use Rattle.std.specs.Thread.{IsSync};
 ghost use Rattle.desk_io.specs.State.{DeskState};
+ghost use Rattle.dta_model.specs.Machine.{left_of};
 ghost use Rattle.loader.specs.Crews.{HasCrewEnded, IsAtFirst, IsCrewReady};
 ghost use Rattle.phase_claims.specs.Crews.{HasEnded, HasSameRights, IsReady};
 ghost use Rattle.loader.specs.Watching.{HasWatched, IsSameWatch};
 ghost use Rattle.loader.specs.declared.loading.TheConstants.{MOST_WORKERS};
 ghost use Rattle.phase_claims.specs.Passes.{IsHeld, IsOf};
-ghost use Rattle.phase_claims.specs.Views.{left_of};
 
 use crate::gate::Gate;
 use crate::pauses::Pauses;
 use crate::shares::{chunk_of, stand_by, stands_by};
 use crate::watch::Watcher;
 use desk_io::Desk;
-use phase_claims::{Floor, Hold, Open, Pass, UnitKind};
+use phase_claims::{Floor, Open, Pass, Stage, UnitKind};
 use std::sync::Wait;
 use std::thread::{Threads, join_mut};
 
@@ -68,7 +68,7 @@ fn perform_open<R: Wait, G: Gate>(rt: &R, floor: &Floor, gate: &G, pass: &mut Pa
     ensures left { pass.new.view.stage ≡ left_of pass.old.view.stage }
     ensures rights { HasSameRights pass.old.view pass.new.view }
 {
-    let Hold::Open(first, middle, _) = pass.hold() else {
+    let Stage::Open(first, middle, _) = pass.stage() else {
         unreachable!()
     };
     for number in first..middle {
@@ -85,11 +85,11 @@ fn work_on<R: Wait, G: Gate>(rt: &R, floor: &Floor, gate: &G, pass: &mut Pass, w
     requires own { IsOf floor.now pass.old }
     requires held { IsHeld pass.old.view.stage }
     ensures own { IsOf floor.now pass.new }
-    ensures idle { pass.new.view.stage ≡ Hold.Idle }
+    ensures idle { pass.new.view.stage ≡ Stage.Idle }
     ensures rights { HasSameRights pass.old.view pass.new.view }
 {
     for _ in rt.forever() {
-        let Hold::Held(_, _) = pass.hold() else {
+        let Stage::Held(_, _) = pass.stage() else {
             break;
         };
         open(rt, floor, pass);

@@ -1,5 +1,5 @@
 // How the workers of a floor share its units: how many each draws at a time, and who stands by.
-ghost use Rattle.phase_claims.specs.declared.floor.TheConstants.{MOST_CHUNK};
+ghost use Rattle.dta_model.specs.declared.machine.TheConstants.{MOST_CHUNK};
 ghost use Rattle.std.specs.Prelude.{◌≤◌};
 
 use crate::pauses::sleep;

@@ -5,15 +5,17 @@ use mathlib.Core.Logic.{dite}
 use native.Mathlib.Decide.{dec_le}
 use Rattle.atomic_table.specs.Table.{Allows, Joins, Me, Splits, Valid, carried_after, chain, homes_after, keeps, step}
 use Rattle.atomic_table.proofs.Lists.{set_again}
+use Rattle.dta_model.specs.Machine.{first_in, held_end, left_of, open_end, with_open}
 use Rattle.dta_model.specs.Sound.{IsSound}
 use Rattle.dta_model.specs.Units.{Gather, node_count, phase_end, phase_start, step_of, step_units, task_of, unit_count}
+use Rattle.dta_model.specs.declared.machine.Stage.TheVariants as stage
+use Rattle.dta_model.specs.declared.machine.TheConstants.{MOST_CHUNK}
 use Rattle.dta_model.specs.declared.plan.Plan.{Plan}
 use Rattle.claim_core.specs.Runs.{numbers}
 use Rattle.claim_core.proofs.Runs.{among_in, among_none}
 use Rattle.claim_core.proofs.Sums.{total_at}
-use Rattle.phase_claims.specs.declared.floor.TheConstants.{MOST_CHUNK, MOST_PASSES, STILL_WORD}
+use Rattle.phase_claims.specs.declared.floor.TheConstants.{MOST_PASSES, STILL_WORD}
 use Rattle.phase_claims.specs.declared.part.Part.{Part}
-use Rattle.phase_claims.specs.declared.view.Hold.TheVariants as hold
 use Rattle.phase_claims.specs.declared.view.Scope.{Scope}
 use Rattle.phase_claims.specs.declared.view.View.{View}
 use Rattle.phase_claims.specs.Passes.{IsHeld, IsOpen, HoldsNoUnit}
@@ -23,7 +25,7 @@ use Rattle.node_transfer.specs.Rest.{NobodyComes}
 use Rattle.phase_claims.specs.Plays.{Draws, Finishes, IsBounded, Looks, LooksAt, Sees, Tells, Turns}
 use Rattle.phase_claims.specs.Running.{EarlierArePerformed, Holds, Running, StandsIn}
 use Rattle.phase_claims.specs.Told.{AreReached, KeepsRooms, TellsAll}
-use Rattle.phase_claims.specs.Views.{at_next, beginning, done_with, ended, first_in, first_of_phase, having_open, held_end, holding, holds, joined, left_of, less_spare, nobody, open_end, rights, seeing, telling, with_open, worked_in}
+use Rattle.phase_claims.specs.Views.{at_next, beginning, done_with, ended, first_of_phase, having_open, holding, holds, joined, less_spare, nobody, rights, seeing, telling, worked_in}
 use Rattle.phase_claims.proofs.Steps.{alone, begins, draws_none, draws_units, drawn_most, earlier, finished_few, finishes, held_in, holds_all, in_order as in_sequence, joins, opens, own, splits, tells, turns, waits}
 use Rattle.phase_claims.proofs.PlacesSteps.{drawn, finish_worked, finishes_places, homes_join, homes_set, homes_split, opens_places, opens_valid, stage_now, turn_worked, turns_places, turns_valid}
 use Rattle.phase_claims.proofs.Told.{grown_else, grown_here, nobody_comes, rooms_kept, none_told, reached_join, reached_more, reached_set, reached_split, reached_start, set_far, still_told, tells_more}
@@ -40,7 +42,7 @@ module _ (k : Scope) where
   kept : (w n : ℕ) (views : List View) → k.passes ≤ MOST_PASSES → unit_count k.plan < 2 ^ 50 → Running k w n views → (o l : List ℕ) → l ≡ 0 ∷ w ∷ n ∷ o → (homes : List (Option Part)) → AreHome k homes views → AreReached k l views → Holds k record { words = l; homes = homes; views = views }
   kept w n views few small r o l is homes h reached = record { few = few; small = small; drawn = w; finished = n; others = o; words = is; running = r; homes = h; reached = reached }
 
-  pub draws_allowed : (slots id many : ℕ) (m : Me Part View) → m.0.stage ≡ hold.Idle → 1 ≤ m.0.weight → 1 ≤ many → many ≤ MOST_CHUNK → Allows (Holds k) slots id m 1 (λ n. (n + many) % 2 ^ 64) (Draws (step slots 1 many 0 none) m)
+  pub draws_allowed : (slots id many : ℕ) (m : Me Part View) → m.0.stage ≡ stage.Idle → 1 ≤ m.0.weight → 1 ≤ many → many ≤ MOST_CHUNK → Allows (Holds k) slots id m 1 (λ n. (n + many) % 2 ^ 64) (Draws (step slots 1 many 0 none) m)
   draws_allowed slots id many m idle has one most s h long at room =
       let r = h.running in
       let w : ℕ = h.drawn in let n : ℕ = h.finished in
@@ -87,7 +89,7 @@ module _ (k : Scope) where
       let moved : (h' : Holds m.0.scope s) × (h'.finished ≡ n) = subst (λ (j : Scope). (h' : Holds j s) × (h'.finished ≡ n)) scope (h, refl) in
       let stands : StandsIn m.0 n = record { state = s; rule = moved.0; by = id; here = at; word = moved.1 } in
       let stop : ℕ = min b (phase_end (node_count k.plan) a) in
-      let opened : View = record m.0 { stage = hold.Open a stop b; at = a; told = []; seen = n; looks = m.0.looks + 1 } in
+      let opened : View = record m.0 { stage = stage.Open a stop b; at = a; told = []; seen = n; looks = m.0.looks + 1 } in
       let same : opened ≡ having_open m.0 n = ap (λ (j : Scope). record m.0 { stage = with_open (node_count j.plan) m.0.stage; at = a; told = []; seen = n; looks = m.0.looks + 1 }) scope in
       let taking = takes_all (taken k a) in
       let before : first_of_phase m.0 ≤ n → EarlierArePerformed (node_count m.0.scope.plan) a s.views = λ le x lt.
@@ -150,7 +152,7 @@ module _ (k : Scope) where
       let words : set s.words 2 ((get_or s.words 2 0 + many) % 2 ^ 64) ≡ 0 ∷ w ∷ (n + (stop - a)) ∷ h.others = ap (λ x. set s.words 2 x) next ∙ ap (λ l. set l 2 (n + (stop - a))) h.words in
       let scope : m.0.scope ≡ k = (r.each id m.0 at).scope has in
       let home : m.1 ≡ brought k m.0.at = back ∙ ap (λ (j : Scope). brought j m.0.at) scope in
-      let done : View = record m.0 { stage = left_of (hold.Open a stop b); told = []; performed = m.0.performed ++ numbers a stop } in
+      let done : View = record m.0 { stage = left_of (stage.Open a stop b); told = []; performed = m.0.performed ++ numbers a stop } in
       let same : done ≡ done_with m.0 = ap (λ x. record m.0 { stage = left_of x; told = []; performed = m.0.performed ++ numbers a stop }) (sym is) in (
         done,
         gives_all (length m.1),

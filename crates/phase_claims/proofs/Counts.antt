@@ -10,11 +10,12 @@ use Rattle.claim_core.specs.Runs.{among}
 use Rattle.claim_core.specs.Sums.{total}
 use Rattle.claim_core.proofs.Cuts.{below_same}
 use Rattle.claim_core.proofs.Runs.{among_none}
-use Rattle.phase_claims.specs.declared.view.Hold.{Hold}
-use Rattle.phase_claims.specs.declared.view.Hold.TheVariants as hold
+use Rattle.dta_model.specs.Machine.{left_of}
+use Rattle.dta_model.specs.declared.machine.Stage.{Stage}
+use Rattle.dta_model.specs.declared.machine.Stage.TheVariants as stage
 use Rattle.phase_claims.specs.declared.view.View.{View}
 use Rattle.phase_claims.specs.Passes.{holds_no_unit}
-use Rattle.phase_claims.specs.Views.{both_stages, holds_in, left_of, worked_in}
+use Rattle.phase_claims.specs.Views.{both_stages, holds_in, worked_in}
 
 -- what holds of all views where one of them becomes another
 pub each_set : (P : View → Type 0) (views : List View) (by : ℕ) (w : View)
@@ -37,49 +38,34 @@ claimed_same N g n D H D' H' c done held = record {
 }
 
 -- the numbers that are held in the rows of a chunk
-pub holds_held : (s : Hold) (a b x : ℕ) → s ≡ hold.Held a b → holds_in s x ≡ among a b x
+pub holds_held : (s : Stage) (a b x : ℕ) → s ≡ stage.Held a b → holds_in s x ≡ among a b x
 holds_held s a b x e = ap (λ y. holds_in y x) e
 
-pub holds_open : (s : Hold) (a m b x : ℕ) → s ≡ hold.Open a m b → holds_in s x ≡ among a b x
+pub holds_open : (s : Stage) (a m b x : ℕ) → s ≡ stage.Open a m b → holds_in s x ≡ among a b x
 holds_open s a m b x e = ap (λ y. holds_in y x) e
 
 -- and where there is none
-pub holds_idle : (s : Hold) (x : ℕ) → s ≡ hold.Idle → holds_in s x ≡ 0
+pub holds_idle : (s : Stage) (x : ℕ) → s ≡ stage.Idle → holds_in s x ≡ 0
 holds_idle s x e = ap (λ y. holds_in y x) e ∙ among_none 0 x
 
-pub holds_none : (s : Hold) → holds_no_unit s ≡ true → (x : ℕ) → holds_in s x ≡ 0
-holds_none hold.Idle h x = among_none 0 x
-holds_none (hold.Held a b) h x = absurd (cc)
-holds_none (hold.Open a m b) h x = absurd (cc)
-holds_none hold.Ended h x = among_none 0 x
+pub holds_none : (s : Stage) → holds_no_unit s ≡ true → (x : ℕ) → holds_in s x ≡ 0
+holds_none stage.Idle h x = among_none 0 x
+holds_none (stage.Held a b) h x = absurd (cc)
+holds_none (stage.Open a m b) h x = absurd (cc)
+holds_none stage.Ended h x = among_none 0 x
 
-pub worked_none : (s : Hold) (at x : ℕ) → holds_no_unit s ≡ true → worked_in s at x ≡ 0
-worked_none hold.Idle at x h = refl
-worked_none (hold.Held a b) at x h = absurd (cc)
-worked_none (hold.Open a m b) at x h = absurd (cc)
-worked_none hold.Ended at x h = refl
+pub worked_none : (s : Stage) (at x : ℕ) → holds_no_unit s ≡ true → worked_in s at x ≡ 0
+worked_none stage.Idle at x h = refl
+worked_none (stage.Held a b) at x h = absurd (cc)
+worked_none (stage.Open a m b) at x h = absurd (cc)
+worked_none stage.Ended at x h = refl
 
-pub none_both : (a b : Hold) → holds_no_unit a ≡ true → holds_no_unit b ≡ true
+pub none_both : (a b : Stage) → holds_no_unit a ≡ true → holds_no_unit b ≡ true
     → holds_no_unit (both_stages a b) ≡ true
-none_both hold.Idle b ha hb = hb
-none_both hold.Ended b ha hb = refl
-none_both (hold.Held c e) b ha hb = absurd (cc)
-none_both (hold.Open c m e) b ha hb = absurd (cc)
-
--- what is left after a finish
-pub left_by : (P : Hold → Type 0) (a m b : ℕ) → (m < b → P (hold.Held m b)) → (b ≤ m → P hold.Idle)
-    → P (left_of (hold.Open a m b))
-left_by P a m b some_left none_left = by (nat_lt m b) refl
-  where
-    by : (c : Bool) → nat_lt m b ≡ c → P (cond c (hold.Held m b) hold.Idle)
-    by true e = some_left (grind (arith, nat_tests))
-    by false e = none_left (grind (arith, nat_tests))
-
-pub holds_left : (a m b x : ℕ) → holds_in (left_of (hold.Open a m b)) x ≡ among m b x
-holds_left a m b x = left_by (λ s. holds_in s x ≡ among m b x) a m b (λ _. refl) (λ le. none le)
-  where
-    none : b ≤ m → among 0 0 x ≡ among m b x
-    none le = grind (arith, nat_tests)
+none_both stage.Idle b ha hb = hb
+none_both stage.Ended b ha hb = refl
+none_both (stage.Held c e) b ha hb = absurd (cc)
+none_both (stage.Open c m e) b ha hb = absurd (cc)
 
 -- sums of pairs that are the same
 pub total_pair : (f g p q : View → ℕ) (views : List View)

@@ -19,5 +19,6 @@ pub mod PlacesSums
 pub mod PlacesPosted
 pub mod PlacesPosting
 pub mod Machines
+pub mod Events
 pub mod PlacesClosed
 pub mod PlacesEnd

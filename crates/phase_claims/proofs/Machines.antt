@@ -1,39 +1,39 @@
 -- The words and the views of a floor are claims of the claim machine.
-use Rattle.std.proofs.Common.{◌≡◌, ◌≢◌, ℕ, ◌+◌, ◌-◌, ◌*◌, ◌<◌, ◌≤◌, ◌%◌, min, List, length, set, refl, sym, ap, ◌∙◌, lt_of_not-le, arith}
+use Rattle.std.proofs.Common.{◌≡◌, ◌≢◌, ℕ, ◌+◌, ◌-◌, ◌*◌, ◌<◌, ◌≤◌, ◌%◌, min, List, [], ◌∷◌, length, map, set, refl, sym, ap, ◌∙◌, lt_of_not-le, arith}
 use mathlib.Core.Logic.{dite}
 use mathlib.Core.Option.{some}
 use native.Mathlib.Decide.{dec_le}
 use lib.ListN.{get_elem?}
 use Rattle.atomic_table.specs.Table.{State}
 use Rattle.atomic_table.proofs.Lists.{set_else}
-use Rattle.dta_model.specs.Machine.{Claims, finished}
+use Rattle.dta_model.specs.Machine.{Claims, finished, first_in, holds_unit, open_end}
 use Rattle.dta_model.specs.Plans.{ins, outs}
 use Rattle.dta_model.specs.Units.{Gather, Posting, Transfer, node_count, phase_end, phase_start, posting_part, step_units, task_of, unit_count}
+use Rattle.dta_model.specs.declared.machine.Stage.{Stage}
+use Rattle.dta_model.specs.declared.machine.Stage.TheVariants as stage
 use Rattle.dta_model.specs.declared.plan.Plan.{Plan}
 use Rattle.claim_core.specs.Kinds.{kind_by}
 use Rattle.claim_core.specs.Parts.{done_in, moves, stage_of}
 use Rattle.claim_core.specs.declared.phase.Phase.{Phase}
 use Rattle.claim_core.specs.Runs.{among}
-use Rattle.claim_core.specs.Sums.{total}
-use Rattle.claim_core.proofs.AsWorkers.{has_unit, held_is, held_numbers, open_numbers}
+use Rattle.claim_core.specs.Sums.{one_if, total}
 use Rattle.claim_core.proofs.Claimed.{open_now}
-use Rattle.claim_core.proofs.Counts.{done_is, drawn_in, held_in, sum_of}
+use Rattle.claim_core.proofs.Counts.{count_is, done_is, drawn_in, held_in, sum_of}
 use Rattle.claim_core.proofs.Cuts.{below_same}
 use Rattle.claim_core.proofs.ByPlace.{gathers_at, posts_at}
+use Rattle.claim_core.proofs.Holds.{held_here}
 use Rattle.claim_core.proofs.InPhase.{of_posting}
 use Rattle.claim_core.proofs.Parts.{in_task, ins_past, mail_of, moves_is, outs_past, transfers}
 use Rattle.claim_core.proofs.Phases.{same_start, same_stop}
 use Rattle.claim_core.proofs.Runs.{among_none, is_among}
 use Rattle.claim_core.proofs.Sums.{once_le, total_at, total_le, total_set}
 use Rattle.phase_claims.specs.declared.part.Part.{Part}
-use Rattle.phase_claims.specs.declared.view.Hold.{Hold}
-use Rattle.phase_claims.specs.declared.view.Hold.TheVariants as hold
 use Rattle.phase_claims.specs.declared.view.Scope.{Scope}
 use Rattle.phase_claims.specs.declared.view.View.{View}
-use Rattle.phase_claims.specs.Laws.{AreApart, AreClaims, AreOfOnePhase, claims_of, workers_of}
+use Rattle.phase_claims.specs.Laws.{AreApart, AreClaims, AreOfOnePhase, claims_of}
 use Rattle.phase_claims.specs.PlacesHome.{home_of, part_at}
 use Rattle.phase_claims.specs.Running.{EarlierArePerformed, FitsStage, Holds, Running}
-use Rattle.phase_claims.specs.Views.{first_in, held_by, holds, holds_in, nobody, open_end, performed_by, performs, worked, worked_by, worked_in}
+use Rattle.phase_claims.specs.Views.{held_by, holds, nobody, performed_by, performs, worked, worked_by, worked_in}
 use Rattle.phase_claims.proofs.PlacesUnit.{part_writer}
 
 -- two places of a list count together
@@ -41,19 +41,17 @@ both_in : (f : View → ℕ) (views : List View) (i j : ℕ) (v u : View) → f 
 both_in f views i j v u none differ at_i at_j =
     omega (arith, none, total_set f views i v nobody at_i, total_at f (set views i nobody) j u (set_else views i j nobody (λ e. differ (sym e)) ∙ at_j))
 
--- the workers that a pass is hold what it holds
-held_here : (N n at x : ℕ) (s : Hold) → FitsStage N n s at → total (has_unit x) (workers_of s) ≡ holds_in s x
-held_here N n at x hold.Idle f = sym (among_none 0 x)
-held_here N n at x (hold.Held a b) f = held_numbers a b x (omega (arith, f))
-held_here N n at x (hold.Open a m b) f = open_numbers a m b x (omega (arith, f.0, f.1)) f.2
-held_here N n at x hold.Ended f = sym (among_none 0 x)
+-- the workers hold what the passes hold
+held_total : (x : ℕ) (views : List View) → total (λ s. one_if (holds_unit x s)) (map (λ (v : View). v.stage) views) ≡ held_by views x
+held_total x [] = refl
+held_total x (v ∷ views) = omega (arith, held_here x v.stage, held_total x views)
 
 -- its open units are of the phase in which the number of finished ones stands
-open_here : (N n at c : ℕ) (s : Hold) → FitsStage N n s at → 1 ≤ among (first_in s) (open_end s) c → (phase_start N n ≤ c) × (c < phase_end N n)
-open_here N n at c hold.Idle f o = absurd (omega (arith, among_none 0 c, o))
-open_here N n at c (hold.Held a b) f o = absurd (omega (arith, among_none a c, o))
-open_here N n at c (hold.Open a m b) f o = let is = is_among a m c o in (omega (arith, is.0, f.3), omega (arith, is.1, f.4))
-open_here N n at c hold.Ended f o = absurd (omega (arith, among_none 0 c, o))
+open_here : (N n at c : ℕ) (s : Stage) → FitsStage N n s at → 1 ≤ among (first_in s) (open_end s) c → (phase_start N n ≤ c) × (c < phase_end N n)
+open_here N n at c stage.Idle f o = absurd (omega (arith, among_none 0 c, o))
+open_here N n at c (stage.Held a b) f o = absurd (omega (arith, among_none a c, o))
+open_here N n at c (stage.Open a m b) f o = let is = is_among a m c o in (omega (arith, is.0, f.3), omega (arith, is.1, f.4))
+open_here N n at c stage.Ended f o = absurd (omega (arith, among_none 0 c, o))
 
 -- a posting is the only unit of its phase
 module _ (p : Plan) (u : ℕ) (h : 1 ≤ moves p (posting_part p) u) where
@@ -81,16 +79,16 @@ module _ (p : Plan) (u : ℕ) (h : 1 ≤ moves p (posting_part p) u) where
   alone_in_phase = sym (ap (λ (x : Phase). x.end) (of_posting (node_count p) u (ap kind_by is_posting)))
 
 -- so a pass that is at a later unit of its phase has worked on no posting
-no_posting : (p : Plan) (n at u : ℕ) (s : Hold) → FitsStage (node_count p) n s at → 1 ≤ moves p (posting_part p) u → worked_in s at u ≡ 0
-no_posting p n at u hold.Idle f h = refl
-no_posting p n at u (hold.Held a b) f h = refl
-no_posting p n at u (hold.Open a m b) f h = dite (dec_le 1 (among a at u))
+no_posting : (p : Plan) (n at u : ℕ) (s : Stage) → FitsStage (node_count p) n s at → 1 ≤ moves p (posting_part p) u → worked_in s at u ≡ 0
+no_posting p n at u stage.Idle f h = refl
+no_posting p n at u (stage.Held a b) f h = refl
+no_posting p n at u (stage.Open a m b) f h = dite (dec_le 1 (among a at u))
     (λ is. let row = is_among a at u is in
     let lo : phase_start (node_count p) n ≤ u = omega (arith, row.0, f.3) in
     let hi : u < phase_end (node_count p) n = omega (arith, row.1, f.1, f.4) in
     absurd (omega (arith, alone_in_phase p u h, same_start (node_count p) n u lo hi, same_stop (node_count p) n u lo hi, row.1, f.1, f.3, f.4, row.0)))
     (λ out. let z : among a at u < 1 = lt_of_not-le out in omega (arith, z))
-no_posting p n at u hold.Ended f h = refl
+no_posting p n at u stage.Ended f h = refl
 
 module _ (k : Scope) (w n : ℕ) (views : List View) (r : Running k w n views) where
   abbrev N : ℕ
@@ -100,13 +98,7 @@ module _ (k : Scope) (w n : ℕ) (views : List View) (r : Running k w n views) w
   s = claims_of w views
 
   held_are : (x : ℕ) → held_in s x ≡ held_by views x
-  held_are x =
-      let mine = λ (v : View). total (has_unit x) (workers_of v.stage) in
-      let same = λ (i : ℕ) (v : View) (e : get_elem? views i ≡ some v). held_here N n v.at x v.stage (r.each i v e).stage in
-      let all = held_is (λ (v : View). workers_of v.stage) views x in
-      let up = total_le mine (holds x) views (λ i v e. omega (arith, same i v e)) in
-      let down = total_le (holds x) mine views (λ i v e. omega (arith, same i v e)) in
-      all ∙ omega (arith, up, down)
+  held_are x = count_is (holds_unit x) s.stages ∙ held_total x views
 
   once : (x : ℕ) → performed_by views x + held_by views x ≤ 1
   once x = omega (arith, r.claimed.once x, once_le x (min w (unit_count k.plan)))

@@ -6,19 +6,20 @@ use Rattle.atomic_table.specs.Table.{Me}
 use Rattle.claim_core.specs.Phases.{IsPhase, phase_of}
 use Rattle.claim_core.specs.declared.phase.Phase.{Phase}
 use Rattle.claim_core.proofs.Phases.{is_phase, lt_stop, start_le}
+use Rattle.dta_model.specs.Machine.{first_in, held_end, left_of, open_end, with_open}
 use Rattle.dta_model.specs.Units.{node_count, phase_start, unit_count}
+use Rattle.dta_model.specs.declared.machine.Stage.{Stage}
+use Rattle.dta_model.specs.declared.machine.Stage.TheVariants as stage
 use Rattle.dta_model.specs.declared.plan.Plan.{Plan}
 use Rattle.phase_claims.specs.declared.part.Part.{Part}
 use Rattle.phase_claims.specs.declared.pass.Place.{Place}
 use Rattle.phase_claims.specs.declared.unit.Open.TheVariants as answer
-use Rattle.phase_claims.specs.declared.view.Hold.{Hold}
-use Rattle.phase_claims.specs.declared.view.Hold.TheVariants as hold
 use Rattle.phase_claims.specs.declared.view.Scope.{Scope}
 use Rattle.phase_claims.specs.declared.view.View.{View}
 use Rattle.phase_claims.specs.Passes.{FloorState, IsAmongOpen, IsHeld, IsInside, IsLastPhase, IsOf, IsOpen, IsPass, IsPlace, Opens, PassState, PerformsNext}
 use Rattle.phase_claims.specs.Plays.{LooksAt}
 use Rattle.phase_claims.specs.PlacesHome.{carried, taken}
-use Rattle.phase_claims.specs.Views.{at_next, done_with, first_in, first_of_phase, having_open, held_end, left_of, open_end, with_open}
+use Rattle.phase_claims.specs.Views.{at_next, done_with, first_of_phase, having_open}
 use Rattle.phase_claims.proofs.PlacesUnit.{lt_is, lt_not}
 
 pub same_table : (f f' : FloorState) (p p' : PassState) → f ≡ f' → p ≡ p' → IsOf f' p' → p.table ≡ f.table
@@ -29,46 +30,46 @@ pub opened : (old new : View) (n : ℕ) → LooksAt old n new → first_of_phase
 opened old new n l le = record { finished = n; stands = l.stands; seen = l.seen; own = l.own; answer = (le, l.earlier le, l.opens le) }
 
 -- it begins with the first unit of the phase of the first number that is held
-pub first_held : (k : ℕ) (s : Hold) (at : ℕ) (last : Phase) → IsHeld s → IsLastPhase k s at last → phase_start k (first_in s) ≡ last.first
-first_held k hold.Idle at last held is = cc
-first_held k (hold.Held a b) at last held is = sym (ap (λ (x : Phase). x.first) is)
-first_held k (hold.Open a m b) at last held is = cc
-first_held k hold.Ended at last held is = cc
+pub first_held : (k : ℕ) (s : Stage) (at : ℕ) (last : Phase) → IsHeld s → IsLastPhase k s at last → phase_start k (first_in s) ≡ last.first
+first_held k stage.Idle at last held is = cc
+first_held k (stage.Held a b) at last held is = sym (ap (λ (x : Phase). x.first) is)
+first_held k (stage.Open a m b) at last held is = cc
+first_held k stage.Ended at last held is = cc
 
 -- whatever is held, it is the phase of its units
-pub any_phase : (k : ℕ) (s : Hold) (at : ℕ) (last : Phase) → IsLastPhase k s at last → IsPhase k last
-any_phase k hold.Idle at last is = is
-any_phase k (hold.Held a b) at last is = subst (λ x. IsPhase k x) (sym is) (is_phase k a)
-any_phase k (hold.Open a m b) at last is = subst (λ x. IsPhase k x) (sym is) (is_phase k at)
-any_phase k hold.Ended at last is = is
+pub any_phase : (k : ℕ) (s : Stage) (at : ℕ) (last : Phase) → IsLastPhase k s at last → IsPhase k last
+any_phase k stage.Idle at last is = is
+any_phase k (stage.Held a b) at last is = subst (λ x. IsPhase k x) (sym is) (is_phase k a)
+any_phase k (stage.Open a m b) at last is = subst (λ x. IsPhase k x) (sym is) (is_phase k at)
+any_phase k stage.Ended at last is = is
 
 -- a pass that has opened what it held
-module _ (me : Me Part View) (left : ℕ) (own : Place) (a b : ℕ) (is : IsPass me left own) (held : own.stage ≡ hold.Held a b) (stop : ℕ) (to : stop ≡ min b own.phase.end) where
+module _ (me : Me Part View) (left : ℕ) (own : Place) (a b : ℕ) (is : IsPass me left own) (held : own.stage ≡ stage.Held a b) (stop : ℕ) (to : stop ≡ min b own.phase.end) where
   abbrev N : ℕ
   N = node_count me.0.scope.plan
 
-  stands : me.0.stage ≡ hold.Held a b
+  stands : me.0.stage ≡ stage.Held a b
   stands = sym is.place.stage ∙ held
 
-  held_inside : IsInside me.0.scope.plan (hold.Held a b) me.0.at
+  held_inside : IsInside me.0.scope.plan (stage.Held a b) me.0.at
   held_inside = subst (λ s. IsInside me.0.scope.plan s me.0.at) stands is.inside
 
   held_phase : own.phase ≡ phase_of N a
   held_phase = subst (λ s. IsLastPhase N s me.0.at own.phase) stands is.place.phase
 
-  open_is : with_open N me.0.stage ≡ hold.Open a stop b
-  open_is = ap (with_open N) stands ∙ ap (λ (x : Phase). hold.Open a (min b x.end) b) (sym held_phase) ∙ ap (λ x. hold.Open a x b) (sym to)
+  open_is : with_open N me.0.stage ≡ stage.Open a stop b
+  open_is = ap (with_open N) stands ∙ ap (λ (x : Phase). stage.Open a (min b x.end) b) (sym held_phase) ∙ ap (λ x. stage.Open a x b) (sym to)
 
   -- some of them are open
   some_open : a < stop
   some_open = omega (arith, to, held_inside.0, lt_stop N a, ap (λ (x : Phase). x.end) held_phase)
 
-  pub opened_pass : (m : Me Part View) (n : ℕ) → m.0 ≡ having_open me.0 n → m.1 ≡ carried me.0.scope m.0.stage m.0.at → IsPass m left (record { stage = hold.Open a stop b; next = a; phase = own.phase })
+  pub opened_pass : (m : Me Part View) (n : ℕ) → m.0 ≡ having_open me.0 n → m.1 ≡ carried me.0.scope m.0.stage m.0.at → IsPass m left (record { stage = stage.Open a stop b; next = a; phase = own.phase })
   opened_pass m n e slots =
       let first : first_in me.0.stage ≡ a = ap first_in stands in
-      let made : IsPass (having_open me.0 n, m.1) left (record { stage = hold.Open a stop b; next = a; phase = own.phase }) = record {
+      let made : IsPass (having_open me.0 n, m.1) left (record { stage = stage.Open a stop b; next = a; phase = own.phase }) = record {
         slots = slots ∙ ap (λ (v : View). carried me.0.scope v.stage v.at) e;
-        inside = subst (λ s. IsInside me.0.scope.plan s (first_in me.0.stage)) (sym open_is) (subst (λ at. IsInside me.0.scope.plan (hold.Open a stop b) at) (sym first)
+        inside = subst (λ s. IsInside me.0.scope.plan s (first_in me.0.stage)) (sym open_is) (subst (λ at. IsInside me.0.scope.plan (stage.Open a stop b) at) (sym first)
             (omega arith, some_open, omega (arith, to, ap (λ (x : Phase). x.end) held_phase), omega (arith, to), held_inside.1));
         weight = is.weight;
         spare = is.spare;
@@ -78,17 +79,17 @@ module _ (me : Me Part View) (left : ℕ) (own : Place) (a b : ℕ) (is : IsPass
           phase = subst (λ s. IsLastPhase N s (first_in me.0.stage) own.phase) (sym open_is) (held_phase ∙ ap (phase_of N) (sym first));
         };
       } in
-      subst (λ v. IsPass (v, m.1) left (record { stage = hold.Open a stop b; next = a; phase = own.phase })) (sym e) made
+      subst (λ v. IsPass (v, m.1) left (record { stage = stage.Open a stop b; next = a; phase = own.phase })) (sym e) made
 
 -- a pass that has some units open
-module _ (v : View) (own : Place) (a m b : ℕ) (is : IsPlace v own) (opened : own.stage ≡ hold.Open a m b) (inside : IsInside v.scope.plan v.stage v.at) where
+module _ (v : View) (own : Place) (a m b : ℕ) (is : IsPlace v own) (opened : own.stage ≡ stage.Open a m b) (inside : IsInside v.scope.plan v.stage v.at) where
   abbrev M : ℕ
   M = node_count v.scope.plan
 
-  pub open_stands : v.stage ≡ hold.Open a m b
+  pub open_stands : v.stage ≡ stage.Open a m b
   open_stands = sym is.stage ∙ opened
 
-  pub open_inside : IsInside v.scope.plan (hold.Open a m b) v.at
+  pub open_inside : IsInside v.scope.plan (stage.Open a m b) v.at
   open_inside = subst (λ s. IsInside v.scope.plan s v.at) open_stands inside
 
   open_phase : own.phase ≡ phase_of M v.at
@@ -113,52 +114,52 @@ module _ (v : View) (own : Place) (a m b : ℕ) (is : IsPlace v own) (opened : o
   pub last_is : m ≤ own.next + 1 → suc v.at ≡ open_end v.stage
   last_is le = omega (arith, le, is.next, open_inside.1, ap open_end open_stands)
 
-  idle_left : b ≤ m → left_of v.stage ≡ hold.Idle
-  idle_left le = ap left_of open_stands ∙ ap (λ t. cond t (hold.Held m b) hold.Idle) (lt_not m b le)
+  idle_left : b ≤ m → left_of v.stage ≡ stage.Idle
+  idle_left le = ap left_of open_stands ∙ ap (λ t. cond t (stage.Held m b) stage.Idle) (lt_not m b le)
 
-  held_left : m < b → left_of v.stage ≡ hold.Held m b
-  held_left lt = ap left_of open_stands ∙ ap (λ t. cond t (hold.Held m b) hold.Idle) (lt_is m b lt)
+  held_left : m < b → left_of v.stage ≡ stage.Held m b
+  held_left lt = ap left_of open_stands ∙ ap (λ t. cond t (stage.Held m b) stage.Idle) (lt_is m b lt)
 
-  pub idle_place : (w : View) → w ≡ done_with v → b ≤ m → IsPlace w (record { stage = hold.Idle; next = own.next; phase = own.phase })
+  pub idle_place : (w : View) → w ≡ done_with v → b ≤ m → IsPlace w (record { stage = stage.Idle; next = own.next; phase = own.phase })
   idle_place w e le =
-      let made : IsPlace (done_with v) (record { stage = hold.Idle; next = own.next; phase = own.phase }) = record {
+      let made : IsPlace (done_with v) (record { stage = stage.Idle; next = own.next; phase = own.phase }) = record {
         stage = sym (idle_left le);
         next = is.next;
         phase = subst (λ s. IsLastPhase M s v.at own.phase) (sym (idle_left le)) (any_phase M v.stage v.at own.phase is.phase);
       } in
-      subst (λ x. IsPlace x (record { stage = hold.Idle; next = own.next; phase = own.phase })) (sym e) made
+      subst (λ x. IsPlace x (record { stage = stage.Idle; next = own.next; phase = own.phase })) (sym e) made
 
-  pub held_place : (w : View) → w ≡ done_with v → m < b → (last : Phase) → last ≡ phase_of M m → IsPlace w (record { stage = hold.Held m b; next = own.next; phase = last })
+  pub held_place : (w : View) → w ≡ done_with v → m < b → (last : Phase) → last ≡ phase_of M m → IsPlace w (record { stage = stage.Held m b; next = own.next; phase = last })
   held_place w e lt last l =
-      let made : IsPlace (done_with v) (record { stage = hold.Held m b; next = own.next; phase = last }) = record {
+      let made : IsPlace (done_with v) (record { stage = stage.Held m b; next = own.next; phase = last }) = record {
         stage = sym (held_left lt);
         next = is.next;
         phase = subst (λ s. IsLastPhase M s v.at last) (sym (held_left lt)) l;
       } in
-      subst (λ x. IsPlace x (record { stage = hold.Held m b; next = own.next; phase = last })) (sym e) made
+      subst (λ x. IsPlace x (record { stage = stage.Held m b; next = own.next; phase = last })) (sym e) made
 
 -- no place is left after a finish
-pub none_left : (k : Scope) (s : Hold) (at : ℕ) → carried k (left_of s) at ≡ []
+pub none_left : (k : Scope) (s : Stage) (at : ℕ) → carried k (left_of s) at ≡ []
 none_left k s at = by (nat_lt (open_end s) (held_end s))
   where
-    by : (t : Bool) → carried k (cond t (hold.Held (open_end s) (held_end s)) hold.Idle) at ≡ []
+    by : (t : Bool) → carried k (cond t (stage.Held (open_end s) (held_end s)) stage.Idle) at ≡ []
     by true = refl
     by false = refl
 
 -- what a pass keeps where it goes on
-left_inside : (p : Plan) (s : Hold) (at : ℕ) → IsInside p s at → IsInside p (left_of s) at
-left_inside p hold.Idle at i = tt
-left_inside p (hold.Held a b) at i = subst (λ t. IsInside p (cond t (hold.Held a b) hold.Idle) at) (sym (lt_is a b i.0)) i
-left_inside p (hold.Open a m b) at i = dite (dec_le b m)
-    (λ le. subst (λ t. IsInside p (cond t (hold.Held m b) hold.Idle) at) (sym (lt_not m b le)) tt)
-    (λ out. let lt : m < b = lt_of_not-le out in subst (λ t. IsInside p (cond t (hold.Held m b) hold.Idle) at) (sym (lt_is m b lt)) (lt, i.4))
-left_inside p hold.Ended at i = tt
+left_inside : (p : Plan) (s : Stage) (at : ℕ) → IsInside p s at → IsInside p (left_of s) at
+left_inside p stage.Idle at i = tt
+left_inside p (stage.Held a b) at i = subst (λ t. IsInside p (cond t (stage.Held a b) stage.Idle) at) (sym (lt_is a b i.0)) i
+left_inside p (stage.Open a m b) at i = dite (dec_le b m)
+    (λ le. subst (λ t. IsInside p (cond t (stage.Held m b) stage.Idle) at) (sym (lt_not m b le)) tt)
+    (λ out. let lt : m < b = lt_of_not-le out in subst (λ t. IsInside p (cond t (stage.Held m b) stage.Idle) at) (sym (lt_is m b lt)) (lt, i.4))
+left_inside p stage.Ended at i = tt
 
-next_inside : (p : Plan) (s : Hold) (at : ℕ) → suc at < open_end s → IsInside p s at → IsInside p s (suc at)
-next_inside p hold.Idle at lt i = tt
-next_inside p (hold.Held a b) at lt i = i
-next_inside p (hold.Open a m b) at lt i = (omega (arith, i.0), lt, i.2, i.3, i.4)
-next_inside p hold.Ended at lt i = tt
+next_inside : (p : Plan) (s : Stage) (at : ℕ) → suc at < open_end s → IsInside p s at → IsInside p s (suc at)
+next_inside p stage.Idle at lt i = tt
+next_inside p (stage.Held a b) at lt i = i
+next_inside p (stage.Open a m b) at lt i = (omega (arith, i.0), lt, i.2, i.3, i.4)
+next_inside p stage.Ended at lt i = tt
 
 pub next_pass : (me m : Me Part View) (left : ℕ) (own own' : Place) → IsPass me left own → PerformsNext me.0 m.0 → m.1 ≡ carried m.0.scope m.0.stage m.0.at → IsPlace m.0 own' → IsPass m left own'
 next_pass me m left own own' is next slots place =
@@ -181,11 +182,11 @@ next_pass me m left own own' is next slots place =
       place = place;
     })
 
-pub among_open : (p : Plan) (s : Hold) (at : ℕ) → IsInside p s at → IsAmongOpen s at
-among_open p hold.Idle at i = tt
-among_open p (hold.Held a b) at i = tt
-among_open p (hold.Open a m b) at i = (i.0, i.1)
-among_open p hold.Ended at i = tt
+pub among_open : (p : Plan) (s : Stage) (at : ℕ) → IsInside p s at → IsAmongOpen s at
+among_open p stage.Idle at i = tt
+among_open p (stage.Held a b) at i = tt
+among_open p (stage.Open a m b) at i = (i.0, i.1)
+among_open p stage.Ended at i = tt
 
 -- the unit that a pass is at is one of the plan, and it has its places
 module _ (v : View) (f : Scope) (own : Place) (scope : v.scope ≡ f) (is : IsPlace v own) (opened : IsOpen v.stage) where

@@ -15,14 +15,14 @@ use Rattle.claim_core.proofs.Parts.{at_place, of_whole_steps, step_cell, step_po
 use Rattle.claim_core.proofs.Sums.{once_here, total_at, total_only, total_set}
 use Rattle.phase_claims.specs.declared.part.Part.{Part}
 use Rattle.phase_claims.specs.declared.part.Part.TheVariants.{Cell, Writer}
-use Rattle.phase_claims.specs.declared.view.Hold.{Hold}
-use Rattle.phase_claims.specs.declared.view.Hold.TheVariants as hold
 use Rattle.phase_claims.specs.declared.view.Scope.{Scope}
 use Rattle.phase_claims.specs.declared.view.View.{View}
 use Rattle.phase_claims.specs.Passes.{HoldsNoUnit}
 use Rattle.monitors.specs.Posted.{Known}
 use Rattle.dta_model.specs.Loading.{journeys_of}
 use Rattle.dta_model.specs.declared.loaded.Journey.{Journey}
+use Rattle.dta_model.specs.declared.machine.Stage.{Stage}
+use Rattle.dta_model.specs.declared.machine.Stage.TheVariants as stage
 use Rattle.phase_claims.specs.PlacesClosed.{AreLast, HasWriter}
 use Rattle.phase_claims.specs.PlacesEnd.{IsClosed, IsEarly}
 use Rattle.phase_claims.specs.PlacesHome.{has_slot, home_of, part_at, posted_in}
@@ -59,7 +59,7 @@ module _ (k : Scope) (s : State Part View) (h : Holds k s) (id : ℕ) (v : View)
   own_performed x = own_total (performs x) refl
 
   none_held : (x : ℕ) → held_by s.views x ≡ 0
-  none_held x = own_total (holds x) (holds_none hold.Idle refl x) ∙ holds_none v.stage free x
+  none_held x = own_total (holds x) (holds_none stage.Idle refl x) ∙ holds_none v.stage free x
 
   done_is : (x : ℕ) → performed_by s.views x ≡ once_below x g
   done_is x = omega (arith, r.claimed.once x, none_held x)
@@ -71,9 +71,9 @@ module _ (k : Scope) (s : State Part View) (h : Holds k s) (id : ℕ) (v : View)
   finished_all = r.claimed.sum ∙ below_same (performed_by s.views) (λ x. 1) g (λ x l. done_is x ∙ once_here x g l) ∙ below_one g
 
   -- a pass that has ended finds all finished
-  pub ended_whole : v.stage ≡ hold.Ended → Q ≤ h.finished
+  pub ended_whole : v.stage ≡ stage.Ended → Q ≤ h.finished
   ended_whole e =
-      let past : 1 ≤ v.past = (subst (λ (x : Hold). FitsPast x v.weight v.past) e (r.each id v at).past).0 in
+      let past : 1 ≤ v.past = (subst (λ (x : Stage). FitsPast x v.weight v.past) e (r.each id v at).past).0 in
       let sum : total (λ u. u.past) s.views ≡ v.past = own_total (λ u. u.past) refl in
       omega (arith, finished_all, r.past, past, sum)
 
@@ -134,7 +134,7 @@ module _ (k k' : Scope) (q : Plan) (same : k ≡ k') (plan : q ≡ k.plan) (s : 
       fewer = omega (arith, l, counts, quota_here);
     }
 
-    pub not_ended : f < count → v'.stage ≡ hold.Ended → false ≡ true
+    pub not_ended : f < count → v'.stage ≡ stage.Ended → false ≡ true
     not_ended l e = absurd (omega (arith, l, counts, found_is, ended_whole k s h id v at all_here free_here (ap (λ (u : View). u.stage) same_view ∙ e)))
 
     module _ (enough : count ≤ f) (parts : List Part) (values : (slot : ℕ) (y : Part) → get_elem? s.homes slot ≡ some (some y) → get_elem? parts slot ≡ some y) where

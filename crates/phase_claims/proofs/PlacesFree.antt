@@ -8,6 +8,8 @@ use native.Mathlib.Decide.{dec_le}
 use lib.ListN.{get_elem?}
 use Rattle.atomic_table.proofs.Lists.{set_else}
 use Rattle.dta_model.specs.Units.{node_count, phase_end, phase_start, places, posting_part, unit_count}
+use Rattle.dta_model.specs.declared.machine.Stage.{Stage}
+use Rattle.dta_model.specs.declared.machine.Stage.TheVariants as stage
 use Rattle.claim_core.specs.Parts.{moves, stage_before, stage_of}
 use Rattle.claim_core.specs.Sums.{is_at, times, total}
 use Rattle.claim_core.proofs.Phases.{same_start, same_stop}
@@ -16,8 +18,6 @@ use Rattle.claim_core.proofs.Runs.{among_in}
 use Rattle.claim_core.proofs.Stages.{stage_held}
 use Rattle.claim_core.proofs.Parts.{at_is}
 use Rattle.claim_core.proofs.Sums.{once_le, total_at, total_only, total_set}
-use Rattle.phase_claims.specs.declared.view.Hold.{Hold}
-use Rattle.phase_claims.specs.declared.view.Hold.TheVariants as hold
 use Rattle.phase_claims.specs.declared.view.Scope.{Scope}
 use Rattle.phase_claims.specs.declared.view.View.{View}
 use Rattle.phase_claims.specs.PlacesHome.{has_slot}
@@ -73,17 +73,17 @@ module _ (k : Scope) (w n : ℕ) (views : List View) (r : Running k w n views) w
     two j u ne a =
         let s = total_set (holds c) views j u nobody a in
         let t = total_at (holds c) (set views j nobody) by v (set_else views j by nobody (λ q. ne (sym q)) ∙ e) in
-        let z : holds c nobody ≡ 0 = holds_idle hold.Idle c refl in
+        let z : holds c nobody ≡ 0 = holds_idle stage.Idle c refl in
         omega (arith, s, t, z, is, r.claimed.once c, once_le c (min w (unit_count k.plan)))
 
     others : (j : ℕ) (u : View) → j ≢ by → get_elem? views j ≡ some u → has_slot k.plan slot u.stage u.at ≡ 0
     others j u ne a = by_stage u.stage refl (r.each j u a).stage
       where
-        by_stage : (s : Hold) → u.stage ≡ s → FitsStage N n s u.at → has_slot k.plan slot s u.at ≡ 0
-        by_stage hold.Idle q f = refl
-        by_stage (hold.Held d b) q f = refl
-        by_stage hold.Ended q f = refl
-        by_stage (hold.Open d m b) q f = dite (dec_le 1 (times slot (places k.plan u.at)))
+        by_stage : (s : Stage) → u.stage ≡ s → FitsStage N n s u.at → has_slot k.plan slot s u.at ≡ 0
+        by_stage stage.Idle q f = refl
+        by_stage (stage.Held d b) q f = refl
+        by_stage stage.Ended q f = refl
+        by_stage (stage.Open d m b) q f = dite (dec_le 1 (times slot (places k.plan u.at)))
             (λ one. let same : c ≡ u.at = same_unit c u.at slot ic (omega (arith, f.0, f.3), omega (arith, f.1, f.4)) in_c one in
             absurd (omega (arith, two j u ne a, holds_open u.stage d m b c q, among_in d b c (omega (arith, same, f.0)) (omega (arith, same, f.1, f.2)))))
             (λ away. let z : times slot (places k.plan u.at) < 1 = lt_of_not-le away in omega (arith, z))

@@ -4,25 +4,27 @@ use mathlib.Core.Option.{Option, some, some-ne-none}
 use lib.ListN.{get_elem?}
 use Rattle.atomic_table.proofs.Lists.{set_here}
 use Rattle.atomic_table.specs.Table.{Valid, chain, homes_after}
+use Rattle.dta_model.specs.Machine.{left_of}
 use Rattle.dta_model.specs.Units.{node_count, phase_end, phase_start, places, posting_part, unit_count}
+use Rattle.dta_model.specs.declared.machine.Stage.{Stage}
+use Rattle.dta_model.specs.declared.machine.Stage.TheVariants as stage
 use Rattle.claim_core.specs.Parts.{moves, stage_before, stage_of}
 use Rattle.claim_core.specs.Runs.{among, numbers}
 use Rattle.claim_core.specs.Sums.{is_at, times, total}
+use Rattle.claim_core.proofs.Holds.{left_by}
 use Rattle.claim_core.proofs.Cuts.{below_same, point}
 use Rattle.claim_core.proofs.Places.{moved_is_placed}
 use Rattle.claim_core.proofs.Runs.{among_in, among_none, among_one, among_two, times_numbers}
 use Rattle.claim_core.proofs.Stages.{stage_more}
 use Rattle.claim_core.proofs.Sums.{at_self, once_le, total-append, total_at, total_set, total_snoc}
 use Rattle.phase_claims.specs.declared.part.Part.{Part}
-use Rattle.phase_claims.specs.declared.view.Hold.{Hold}
-use Rattle.phase_claims.specs.declared.view.Hold.TheVariants as hold
 use Rattle.phase_claims.specs.declared.view.Scope.{Scope}
 use Rattle.phase_claims.specs.declared.view.View.{View}
 use Rattle.phase_claims.specs.Passes.{HoldsNoUnit}
 use Rattle.phase_claims.specs.PlacesHome.{AreHome, brought, carried, has_slot, home_of, part_at, parts_of, taken}
 use Rattle.phase_claims.specs.Running.{Running}
-use Rattle.phase_claims.specs.Views.{beginning, holds, joined, left_of, less_spare, nobody, performs, worked, worked_by, worked_in}
-use Rattle.phase_claims.proofs.Counts.{left_by, none_both, worked_none}
+use Rattle.phase_claims.specs.Views.{beginning, holds, joined, less_spare, nobody, performs, worked, worked_by, worked_in}
+use Rattle.phase_claims.proofs.Counts.{none_both, worked_none}
 use Rattle.phase_claims.proofs.Homes.{all_home, apart_of, finishes_homes, opens_homes, risen}
 use Rattle.phase_claims.proofs.PlacesFree.{none_other, one_place, only_own, places_once, stage_is}
 use Rattle.phase_claims.proofs.Steps.{all_drawn, has_all, holds_all, is_at_one, opens_now, plus, stands}
@@ -47,11 +49,11 @@ set_twice (x ∷ xs) zero a b = refl
 set_twice (x ∷ xs) (suc i) a b = ap (λ l. x ∷ l) (set_twice xs i a b)
 
 -- a pass that holds no unit has no slot
-pub none_carried : (k : Scope) (s : Hold) (at : ℕ) → HoldsNoUnit s → carried k s at ≡ []
-none_carried k hold.Idle at h = refl
-none_carried k (hold.Held a b) at h = refl
-none_carried k (hold.Open a m b) at h = absurd (cc)
-none_carried k hold.Ended at h = refl
+pub none_carried : (k : Scope) (s : Stage) (at : ℕ) → HoldsNoUnit s → carried k s at ≡ []
+none_carried k stage.Idle at h = refl
+none_carried k (stage.Held a b) at h = refl
+none_carried k (stage.Open a m b) at h = absurd (cc)
+none_carried k stage.Ended at h = refl
 
 module _ (k : Scope) where
   abbrev N : ℕ
@@ -86,11 +88,11 @@ module _ (k : Scope) where
       (λ slot. omega (arith, total_set (Has slot) views by v (less_spare v) e, total_snoc (Has slot) (set views by (less_spare v)) u))
       (λ x. omega (arith, total_set (worked x) views by v (less_spare v) e, total_snoc (worked x) (set views by (less_spare v)) u)) h
 
-  pub has_none : (slot : ℕ) (s : Hold) (at : ℕ) → HoldsNoUnit s → has_slot k.plan slot s at ≡ 0
-  has_none slot hold.Idle at q = refl
-  has_none slot (hold.Held a b) at q = refl
-  has_none slot (hold.Open a m b) at q = absurd (cc)
-  has_none slot hold.Ended at q = refl
+  pub has_none : (slot : ℕ) (s : Stage) (at : ℕ) → HoldsNoUnit s → has_slot k.plan slot s at ≡ 0
+  has_none slot stage.Idle at q = refl
+  has_none slot (stage.Held a b) at q = refl
+  has_none slot (stage.Open a m b) at q = absurd (cc)
+  has_none slot stage.Ended at q = refl
 
   pub homes_join : (homes : List (Option Part)) (views : List View) (by other : ℕ) (v u : View) → get_elem? views by ≡ some v → get_elem? (set views by (joined v u)) other ≡ some u → HoldsNoUnit v.stage → HoldsNoUnit u.stage
       → AreHome k homes views → AreHome k homes (set (set views by (joined v u)) other nobody)
@@ -121,7 +123,7 @@ module _ (k : Scope) where
           (λ slot in_c. (let s = stage_is k w n views r c slot not_worked ic in_c in let t = point (moves k.plan slot) c Q drawn in omega (arith, s, t)))
 
     -- a look that opens
-    module _ (a b : ℕ) (is : v.stage ≡ hold.Held a b) (le : phase_start N a ≤ n) where
+    module _ (a b : ℕ) (is : v.stage ≡ stage.Held a b) (le : phase_start N a ≤ n) where
       abbrev m : ℕ
       m = min b (phase_end N a)
 
@@ -148,10 +150,10 @@ module _ (k : Scope) where
           (apart_of (part_at k) all_slots (places k.plan a) (λ slot. stage_of k.plan (worked_by views) slot) (places_once k a))
           (all_home Q (moves k.plan) (part_at k) Has worked all_slots homes views h (places k.plan a) (places_once k a) closed))
 
-      pub opens_places : (seen looks : ℕ) → AreHome k (homes_after homes [] (takes_all (taken k a))) (set views by (record v { stage = hold.Open a m b; at = a; told = []; seen = seen; looks = looks }))
+      pub opens_places : (seen looks : ℕ) → AreHome k (homes_after homes [] (takes_all (taken k a))) (set views by (record v { stage = stage.Open a m b; at = a; told = []; seen = seen; looks = looks }))
       unfolding stage_of
       opens_places seen looks =
-          let v' : View = record v { stage = hold.Open a m b; at = a; told = []; seen = seen; looks = looks } in
+          let v' : View = record v { stage = stage.Open a m b; at = a; told = []; seen = seen; looks = looks } in
           subst (λ xs. AreHome k (homes_after homes [] (takes_all xs)) (set views by v')) (now_taken a mine_left mine_held in_it)
           (opens_homes Q (moves k.plan) (part_at k) Has worked all_slots by (places k.plan a) homes views v v' h e (places_once k a)
           (λ slot. (let z : has_slot k.plan slot v.stage v.at ≡ 0 = ap (λ s. has_slot k.plan slot s v.at) is in omega (arith, z)))
@@ -159,7 +161,7 @@ module _ (k : Scope) where
           closed)
 
     -- where some are open
-    module _ (a m b : ℕ) (is : v.stage ≡ hold.Open a m b) where
+    module _ (a m b : ℕ) (is : v.stage ≡ stage.Open a m b) where
       order : (a < m) × (m ≤ b) × (phase_start N n ≤ a) × (m ≤ phase_end N n)
       order = stands k w n views r by a m b v e is
 
@@ -208,15 +210,15 @@ module _ (k : Scope) where
           stage_is k w n views r v.at slot (not_worked v.at (left_all v.at (omega arith) here_below) (held_all v.at (omega arith) here_below) in_it) in_it in_c
 
       -- a finish
-      pub finish_worked : suc v.at ≡ m → (x : ℕ) → worked x (record v { stage = left_of (hold.Open a m b); told = []; performed = v.performed ++ numbers a m }) ≡ worked x v + is_at x v.at
+      pub finish_worked : suc v.at ≡ m → (x : ℕ) → worked x (record v { stage = left_of (stage.Open a m b); told = []; performed = v.performed ++ numbers a m }) ≡ worked x v + is_at x v.at
       finish_worked last x =
-          let v' : View = record v { stage = left_of (hold.Open a m b); told = []; performed = v.performed ++ numbers a m } in
+          let v' : View = record v { stage = left_of (stage.Open a m b); told = []; performed = v.performed ++ numbers a m } in
           let none : worked_in v'.stage v'.at x ≡ 0 = left_by (λ s. worked_in s v.at x ≡ 0) a m b (λ _. refl) (λ _. refl) in
           omega (arith, none, plus k w n views r by a m b v e is x, more_worked x, ap (λ c. among a c x) last)
 
-      pub finishes_places : suc v.at ≡ m → (xs : List (ℕ × Part)) → xs ≡ brought k v.at → AreHome k (homes_after homes xs (gives_all (length xs))) (set views by (record v { stage = left_of (hold.Open a m b); told = []; performed = v.performed ++ numbers a m }))
+      pub finishes_places : suc v.at ≡ m → (xs : List (ℕ × Part)) → xs ≡ brought k v.at → AreHome k (homes_after homes xs (gives_all (length xs))) (set views by (record v { stage = left_of (stage.Open a m b); told = []; performed = v.performed ++ numbers a m }))
       finishes_places last xs back =
-          let v' : View = record v { stage = left_of (hold.Open a m b); told = []; performed = v.performed ++ numbers a m } in
+          let v' : View = record v { stage = left_of (stage.Open a m b); told = []; performed = v.performed ++ numbers a m } in
           comes_home v' (λ slot. left_by (λ s. has_slot k.plan slot s v.at ≡ 0) a m b (λ _. refl) (λ _. refl))
           (finish_worked last)
           xs back
@@ -224,7 +226,7 @@ module _ (k : Scope) where
       -- a turn to the next unit: in two, with a view between that has no place
       module _ (lt : suc v.at < m) (xs : List (ℕ × Part)) (back : xs ≡ brought k v.at) where
         abbrev v1 : View
-        v1 = record v { stage = hold.Idle; performed = v.performed ++ numbers a (suc v.at) }
+        v1 = record v { stage = stage.Idle; performed = v.performed ++ numbers a (suc v.at) }
 
         abbrev v2 : View
         v2 = record v { at = suc v.at; told = [] }

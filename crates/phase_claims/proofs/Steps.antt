@@ -5,24 +5,26 @@ use mathlib.Core.Logic.{dite}
 use native.Mathlib.Decide.{dec_le}
 use lib.ListN.{get_elem?}
 use Rattle.atomic_table.proofs.Lists.{at_snoc, set_else}
+use Rattle.dta_model.specs.Machine.{left_of}
 use Rattle.dta_model.specs.Units.{node_count, phase_end, phase_start, unit_count}
+use Rattle.dta_model.specs.declared.machine.Stage.{Stage}
+use Rattle.dta_model.specs.declared.machine.Stage.TheVariants as stage
+use Rattle.dta_model.specs.declared.machine.TheConstants.{MOST_CHUNK}
 use Rattle.claim_core.specs.Claimed.{Claimed}
 use Rattle.claim_core.specs.Runs.{among, numbers}
 use Rattle.claim_core.specs.Sums.{below, is_at, once_below, times, total}
 use Rattle.claim_core.proofs.Claimed.{draw, finish, finished_le, none_held, not_past, open_now}
 use Rattle.claim_core.proofs.Cuts.{below_same}
+use Rattle.claim_core.proofs.Holds.{held_left, left_by}
 use Rattle.claim_core.proofs.Phases.{lt_stop, same_start, same_stop, start_le}
 use Rattle.claim_core.proofs.Runs.{among_in, among_two, below_among, is_among, length-numbers, times_numbers}
 use Rattle.claim_core.proofs.Sums.{below_plus, full, once_here, once_in, once_le, once_out, total-append, total_at, total_le, total_only, total_set, total_snoc}
-use Rattle.phase_claims.specs.declared.floor.TheConstants.{MOST_CHUNK}
-use Rattle.phase_claims.specs.declared.view.Hold.{Hold}
-use Rattle.phase_claims.specs.declared.view.Hold.TheVariants as hold
 use Rattle.phase_claims.specs.declared.view.Scope.{Scope}
 use Rattle.phase_claims.specs.declared.view.View.{View}
 use Rattle.phase_claims.specs.Passes.{holds_no_unit}
 use Rattle.phase_claims.specs.Running.{EarlierArePerformed, FitsPast, FitsStage, FitsView, Running}
-use Rattle.phase_claims.specs.Views.{beginning, both_stages, ended, held_by, holding, holds, joined, left_of, less_spare, nobody, performed_by, performed_count, performs, rights, seeing, telling}
-use Rattle.phase_claims.proofs.Counts.{claimed_same, each_set, holds_held, holds_idle, holds_left, holds_none, holds_open, left_by, none_both}
+use Rattle.phase_claims.specs.Views.{beginning, both_stages, ended, held_by, holding, holds, joined, less_spare, nobody, performed_by, performed_count, performs, rights, seeing, telling}
+use Rattle.phase_claims.proofs.Counts.{claimed_same, each_set, holds_held, holds_idle, holds_none, holds_open, none_both}
 
 module _ (k : Scope) (w n : ℕ) (views : List View) (r : Running k w n views) where
   abbrev N : ℕ
@@ -63,7 +65,7 @@ module _ (k : Scope) (w n : ℕ) (views : List View) (r : Running k w n views) w
   }
 
   -- a draw of units, where the last of the chunk may be past the last unit
-  pub draws_units : (by many : ℕ) (v : View) → get_elem? views by ≡ some v → v.stage ≡ hold.Idle → 1 ≤ v.weight → 1 ≤ many → many ≤ MOST_CHUNK → w < Q → Running k (w + many) n (set views by (holding v w many))
+  pub draws_units : (by many : ℕ) (v : View) → get_elem? views by ≡ some v → v.stage ≡ stage.Idle → 1 ≤ v.weight → 1 ≤ many → many ≤ MOST_CHUNK → w < Q → Running k (w + many) n (set views by (holding v w many))
   draws_units by many v e idle has one few lt =
       let v' : View = holding v w many in
       let views' : List View = set views by v' in
@@ -93,16 +95,16 @@ module _ (k : Scope) (w n : ℕ) (views : List View) (r : Running k w n views) w
       }
 
   -- a draw past the last unit
-  pub draws_none : (by many : ℕ) (v : View) → get_elem? views by ≡ some v → v.stage ≡ hold.Idle → 1 ≤ v.weight → 1 ≤ many → many ≤ MOST_CHUNK → Q ≤ w → Running k (w + many) n (set views by (ended v many))
+  pub draws_none : (by many : ℕ) (v : View) → get_elem? views by ≡ some v → v.stage ≡ stage.Idle → 1 ≤ v.weight → 1 ≤ many → many ≤ MOST_CHUNK → Q ≤ w → Running k (w + many) n (set views by (ended v many))
   draws_none by many v e idle has one few le =
       let v' : View = ended v many in
       let views' : List View = set views by v' in
       let f = r.each by v e in
-      let low : v.past ≤ v.weight * MOST_CHUNK = subst (λ (s : Hold). FitsPast s v.weight v.past) idle f.past in
+      let low : v.past ≤ v.weight * MOST_CHUNK = subst (λ (s : Stage). FitsPast s v.weight v.past) idle f.past in
       let same : g ≡ min (w + many) Q = omega (arith, le) in
       let whole : Claimed N g n (performed_by views') (held_by views') = claimed_same N g n (performed_by views) (held_by views) (performed_by views') (held_by views') r.claimed
       (λ x. omega (arith, total_set (performs x) views by v v' e))
-      (λ x. omega (arith, total_set (holds x) views by v v' e, holds_idle v.stage x idle, holds_none hold.Ended refl x)) in record {
+      (λ x. omega (arith, total_set (holds x) views by v v' e, holds_idle v.stage x idle, holds_none stage.Ended refl x)) in record {
         claimed = subst (λ (b : ℕ). Claimed N b n (performed_by views') (held_by views')) same whole;
         performed = omega (arith, r.performed, total_set performed_count views by v v' e);
         past = omega (arith, r.past, total_set (λ v. v.past) views by v v' e, le);
@@ -117,7 +119,7 @@ module _ (k : Scope) (w n : ℕ) (views : List View) (r : Running k w n views) w
       }
 
   -- where the phase of the first number has begun, its numbers of that phase are open
-  module _ (by a b : ℕ) (v : View) (e : get_elem? views by ≡ some v) (is : v.stage ≡ hold.Held a b) (le : phase_start N a ≤ n) where
+  module _ (by a b : ℕ) (v : View) (e : get_elem? views by ≡ some v) (is : v.stage ≡ stage.Held a b) (le : phase_start N a ≤ n) where
     abbrev stop_of : ℕ
     stop_of = min b (phase_end N a)
 
@@ -133,13 +135,13 @@ module _ (k : Scope) (w n : ℕ) (views : List View) (r : Running k w n views) w
         let now = open_now N g n (performed_by views) (held_by views) r.claimed a (held_in by a v e first).0 le in
         (now.0, omega (arith, in_order, lt_stop N a), omega (arith, same_stop N n a now.0 now.1))
 
-    pub opens : 1 ≤ v.weight → Running k w n (set views by (record v { stage = hold.Open a stop_of b; at = a; told = []; seen = n; looks = v.looks + 1 }))
+    pub opens : 1 ≤ v.weight → Running k w n (set views by (record v { stage = stage.Open a stop_of b; at = a; told = []; seen = n; looks = v.looks + 1 }))
     opens has =
         let f = r.each by v e in
-        looks by v (record v { stage = hold.Open a stop_of b; at = a; told = []; seen = n; looks = v.looks + 1 }) e (λ x. sym (holds_held v.stage a b x is)) refl refl refl refl record {
+        looks by v (record v { stage = stage.Open a stop_of b; at = a; told = []; seen = n; looks = v.looks + 1 }) e (λ x. sym (holds_held v.stage a b x is)) refl refl refl refl record {
           scope = f.scope;
           seen = omega arith;
-          past = subst (λ (s : Hold). FitsPast s v.weight v.past) is f.past;
+          past = subst (λ (s : Stage). FitsPast s v.weight v.past) is f.past;
           empty = λ z. absurd (omega (arith, z, has));
           stage = (omega arith, opens_now.1, omega arith, opens_now.0, opens_now.2);
         }
@@ -165,14 +167,14 @@ module _ (k : Scope) (w n : ℕ) (views : List View) (r : Running k w n views) w
       one x = once_le x g
 
   -- a pass with all passes in it finds the phase of its first number begun
-  pub alone : (by a b : ℕ) (v : View) → get_elem? views by ≡ some v → v.stage ≡ hold.Held a b → rights v ≡ k.passes → phase_start N a ≤ n
+  pub alone : (by a b : ℕ) (v : View) → get_elem? views by ≡ some v → v.stage ≡ stage.Held a b → rights v ≡ k.passes → phase_start N a ≤ n
   alone by a b v e is whole =
       let lt : a < b = subst (λ s. FitsStage N n s v.at) is (r.each by v e).stage in
       let others : (j : ℕ) (u : View) → j ≢ by → get_elem? views j ≡ some u → u ≡ nobody = λ j u ne at.
       (r.each j u at).empty (let s = total_set rights views j u nobody at in let t = total_at rights (set views j nobody) by v (set_else views j by nobody (λ q. ne (sym q)) ∙ e) in
       omega (arith, s, t, r.rights)) in
       let mine : (x : ℕ) → holds x v ≡ among a b x = λ x. holds_held v.stage a b x is in
-      let only : (x : ℕ) → held_by views x ≡ among a b x = λ x. total_only (holds x) views by v e (λ j u ne at. ap (holds x) (others j u ne at) ∙ holds_idle hold.Idle x refl) ∙ mine x in
+      let only : (x : ℕ) → held_by views x ≡ among a b x = λ x. total_only (holds x) views by v e (λ j u ne at. ap (holds x) (others j u ne at) ∙ holds_idle stage.Idle x refl) ∙ mine x in
       let most : b ≤ g = held_most by a b v e mine lt in
       let count : below g (held_by views) ≡ b - a = below_same (held_by views) (among a b) g (λ x _. only x) ∙ below_among a b g (omega (arith, lt)) most in
       let all : g ≤ below g (λ x. performed_by views x + held_by views x) = full (λ x. performed_by views x + held_by views x) g (λ x l. omega (arith, r.claimed.once x, once_here x g l)) in
@@ -182,14 +184,14 @@ module _ (k : Scope) (w n : ℕ) (views : List View) (r : Running k w n views) w
   own by v e = omega (arith, total_at performed_count views by v e, r.performed)
 
   -- a finish of the open numbers
-  module _ (by a m b : ℕ) (v : View) (e : get_elem? views by ≡ some v) (is : v.stage ≡ hold.Open a m b) where
+  module _ (by a m b : ℕ) (v : View) (e : get_elem? views by ≡ some v) (is : v.stage ≡ stage.Open a m b) where
     abbrev done_view : View
-    done_view = record v { stage = left_of (hold.Open a m b); told = []; performed = v.performed ++ numbers a m }
+    done_view = record v { stage = left_of (stage.Open a m b); told = []; performed = v.performed ++ numbers a m }
 
     abbrev views' : List View
     views' = set views by done_view
 
-    fits : FitsStage N n (hold.Open a m b) v.at
+    fits : FitsStage N n (stage.Open a m b) v.at
     fits = subst (λ s. FitsStage N n s v.at) is (r.each by v e).stage
 
     pub stands : (a < m) × (m ≤ b) × (phase_start N n ≤ a) × (m ≤ phase_end N n)
@@ -224,7 +226,7 @@ module _ (k : Scope) (w n : ℕ) (views : List View) (r : Running k w n views) w
     more x = omega (arith, total_set (performs x) views by v done_view e, plus x)
 
     less : (x : ℕ) → held_by views' x + among a m x ≡ held_by views x
-    less x = omega (arith, total_set (holds x) views by v done_view e, has_all x, holds_left a m b x, among_two a m b x (omega (arith, stands.0)) stands.1)
+    less x = omega (arith, total_set (holds x) views by v done_view e, has_all x, held_left a m b x, among_two a m b x (omega (arith, stands.0)) stands.1)
 
     count : m - a ≡ below g (among a m)
     count = sym (below_among a m g (omega (arith, stands.0)) all_drawn)
@@ -239,11 +241,11 @@ module _ (k : Scope) (w n : ℕ) (views : List View) (r : Running k w n views) w
     finished_few = omega (arith, finished_le N g (n + (m - a)) (performed_by views') (held_by views') step)
 
     -- the units that another pass has open are of the same phase still
-    others_stay : (j : ℕ) (u : View) → j ≢ by → get_elem? views j ≡ some u → (s : Hold) → u.stage ≡ s → FitsStage N n s u.at → FitsStage N (n + (m - a)) s u.at
-    others_stay j u ne at hold.Idle q f = tt
-    others_stay j u ne at (hold.Held c d) q f = f
-    others_stay j u ne at hold.Ended q f = tt
-    others_stay j u ne at (hold.Open c l d) q f = dite (dec_le (phase_end N n) (n + (m - a)))
+    others_stay : (j : ℕ) (u : View) → j ≢ by → get_elem? views j ≡ some u → (s : Stage) → u.stage ≡ s → FitsStage N n s u.at → FitsStage N (n + (m - a)) s u.at
+    others_stay j u ne at stage.Idle q f = tt
+    others_stay j u ne at (stage.Held c d) q f = f
+    others_stay j u ne at stage.Ended q f = tt
+    others_stay j u ne at (stage.Open c l d) q f = dite (dec_le (phase_end N n) (n + (m - a)))
         (λ last. let over : phase_end N n ≡ n + (m - a) = omega (arith, last, not_past N g n (performed_by views) (held_by views) r.claimed (among a m) (m - a) count within (performed_by views') (held_by views') more less) in
         let none = none_held N g n (performed_by views) (held_by views) r.claimed (among a m) (m - a) count within (performed_by views') (held_by views') more less over c (omega (arith, f.0, f.1, f.4)) in
         let there : get_elem? views' j ≡ some u = set_else views by j done_view ne ∙ at in
@@ -266,7 +268,7 @@ module _ (k : Scope) (w n : ℕ) (views : List View) (r : Running k w n views) w
               record {
                 scope = f.scope;
                 seen = omega (arith, f.seen);
-                past = left_by (λ s. FitsPast s v.weight v.past) a m b (λ _. subst (λ (s : Hold). FitsPast s v.weight v.past) is f.past) (λ _. subst (λ (s : Hold). FitsPast s v.weight v.past) is f.past);
+                past = left_by (λ s. FitsPast s v.weight v.past) a m b (λ _. subst (λ (s : Stage). FitsPast s v.weight v.past) is f.past) (λ _. subst (λ (s : Stage). FitsPast s v.weight v.past) is f.past);
                 empty = λ z. absurd (omega (arith, z, has));
                 stage = left_by (λ s. FitsStage N (n + (m - a)) s v.at) a m b (λ lt. lt) (λ _. tt);
               };
@@ -290,24 +292,24 @@ module _ (k : Scope) (w n : ℕ) (views : List View) (r : Running k w n views) w
             (at_snoc (set views by v') u y j i);
       }
 
-  past_both : (a b : Hold) (v u i j : ℕ) → holds_no_unit a ≡ true → holds_no_unit b ≡ true → FitsPast a v i → FitsPast b u j → FitsPast (both_stages a b) (v + u) (i + j)
-  past_both hold.Idle hold.Idle v u i j ha hb fa fb = omega (arith, fa, fb)
-  past_both hold.Idle hold.Ended v u i j ha hb fa fb = (omega (arith, fb.0), omega (arith, fa, fb.1))
-  past_both hold.Ended hold.Idle v u i j ha hb fa fb = (omega (arith, fa.0), omega (arith, fa.1, fb))
-  past_both hold.Ended hold.Ended v u i j ha hb fa fb = (omega (arith, fa.0), omega (arith, fa.1, fb.1))
-  past_both (hold.Held c d) b v u i j ha hb fa fb = absurd (cc)
-  past_both (hold.Open c m d) b v u i j ha hb fa fb = absurd (cc)
-  past_both a (hold.Held c d) v u i j ha hb fa fb = absurd (cc)
-  past_both a (hold.Open c m d) v u i j ha hb fa fb = absurd (cc)
+  past_both : (a b : Stage) (v u i j : ℕ) → holds_no_unit a ≡ true → holds_no_unit b ≡ true → FitsPast a v i → FitsPast b u j → FitsPast (both_stages a b) (v + u) (i + j)
+  past_both stage.Idle stage.Idle v u i j ha hb fa fb = omega (arith, fa, fb)
+  past_both stage.Idle stage.Ended v u i j ha hb fa fb = (omega (arith, fb.0), omega (arith, fa, fb.1))
+  past_both stage.Ended stage.Idle v u i j ha hb fa fb = (omega (arith, fa.0), omega (arith, fa.1, fb))
+  past_both stage.Ended stage.Ended v u i j ha hb fa fb = (omega (arith, fa.0), omega (arith, fa.1, fb.1))
+  past_both (stage.Held c d) b v u i j ha hb fa fb = absurd (cc)
+  past_both (stage.Open c m d) b v u i j ha hb fa fb = absurd (cc)
+  past_both a (stage.Held c d) v u i j ha hb fa fb = absurd (cc)
+  past_both a (stage.Open c m d) v u i j ha hb fa fb = absurd (cc)
 
-  stage_both : (a b : Hold) → holds_no_unit a ≡ true → holds_no_unit b ≡ true → FitsStage N n (both_stages a b) 0
-  stage_both hold.Idle hold.Idle ha hb = tt
-  stage_both hold.Idle hold.Ended ha hb = tt
-  stage_both hold.Ended b ha hb = tt
-  stage_both (hold.Held c d) b ha hb = absurd (cc)
-  stage_both (hold.Open c m d) b ha hb = absurd (cc)
-  stage_both a (hold.Held c d) ha hb = absurd (cc)
-  stage_both a (hold.Open c m d) ha hb = absurd (cc)
+  stage_both : (a b : Stage) → holds_no_unit a ≡ true → holds_no_unit b ≡ true → FitsStage N n (both_stages a b) 0
+  stage_both stage.Idle stage.Idle ha hb = tt
+  stage_both stage.Idle stage.Ended ha hb = tt
+  stage_both stage.Ended b ha hb = tt
+  stage_both (stage.Held c d) b ha hb = absurd (cc)
+  stage_both (stage.Open c m d) b ha hb = absurd (cc)
+  stage_both a (stage.Held c d) ha hb = absurd (cc)
+  stage_both a (stage.Open c m d) ha hb = absurd (cc)
 
   pub joins : (by other : ℕ) (v u : View) → get_elem? views by ≡ some v → other ≢ by → get_elem? (set views by (joined v u)) other ≡ some u → holds_no_unit v.stage ≡ true → holds_no_unit u.stage ≡ true → 1 ≤ v.weight → Running k w n (set (set views by (joined v u)) other nobody)
   joins by other v u e ne there hv hu has =
@@ -320,7 +322,7 @@ module _ (k : Scope) (w n : ℕ) (views : List View) (r : Running k w n views) w
       let done_of : (x : ℕ) → performs x v' ≡ performs x v + performs x u = λ x. total-append (is_at x) v.performed u.performed in record {
         claimed = claimed_same N g n (performed_by views) (held_by views) (performed_by views') (held_by views') r.claimed
             (λ x. omega (arith, sum_of (performs x), done_of x))
-            (λ x. omega (arith, sum_of (holds x), holds_none v.stage hv x, holds_none u.stage hu x, holds_none (both_stages v.stage u.stage) (none_both v.stage u.stage hv hu) x, holds_idle hold.Idle x refl));
+            (λ x. omega (arith, sum_of (holds x), holds_none v.stage hv x, holds_none u.stage hu x, holds_none (both_stages v.stage u.stage) (none_both v.stage u.stage hv hu) x, holds_idle stage.Idle x refl));
         performed = omega (arith, r.performed, sum_of performed_count, length-append v.performed u.performed);
         past = omega (arith, r.past, sum_of (λ v. v.past));
         rights = omega (arith, r.rights, sum_of rights);
@@ -336,11 +338,11 @@ module _ (k : Scope) (w n : ℕ) (views : List View) (r : Running k w n views) w
       }
 
   -- word 1 has room
-  past_view : (s : Hold) (weight past : ℕ) → FitsPast s weight past → past ≤ 512 * weight
-  past_view hold.Idle weight past f = omega (arith, f)
-  past_view (hold.Held a b) weight past f = omega (arith, f)
-  past_view (hold.Open a m b) weight past f = omega (arith, f)
-  past_view hold.Ended weight past f = omega (arith, f.1)
+  past_view : (s : Stage) (weight past : ℕ) → FitsPast s weight past → past ≤ 512 * weight
+  past_view stage.Idle weight past f = omega (arith, f)
+  past_view (stage.Held a b) weight past f = omega (arith, f)
+  past_view (stage.Open a m b) weight past f = omega (arith, f)
+  past_view stage.Ended weight past f = omega (arith, f.1)
 
   pub drawn_most : w ≤ Q + 512 * k.passes
   drawn_most = omega (arith, r.past, r.rights, many_of views, total_le (λ v. v.past) (λ v. 512 * rights v) views (λ i v e. omega (arith, past_view v.stage v.weight v.past (r.each i v e).past)))

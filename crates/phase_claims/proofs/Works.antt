@@ -3,14 +3,14 @@ use Rattle.std.proofs.Common.{◌≡◌, ℕ, ◌+◌, ◌<◌, ◌≤◌, min, 
 use mathlib.Core.Logic.{dite}
 use native.Mathlib.Decide.{dec_le}
 use Rattle.dta_model.specs.Units.{node_count, phase_end, phase_start, unit_count}
+use Rattle.dta_model.specs.declared.machine.Stage.{Stage}
+use Rattle.dta_model.specs.declared.machine.Stage.TheVariants as stage
 use Rattle.claim_core.specs.Runs.{among}
 use Rattle.claim_core.specs.Sums.{once_below, total}
 use Rattle.claim_core.proofs.Claimed.{finished_le}
 use Rattle.claim_core.proofs.Phases.{start_le}
 use Rattle.claim_core.proofs.Runs.{among_none, among_two, is_among}
 use Rattle.claim_core.proofs.Sums.{once_le, total_le}
-use Rattle.phase_claims.specs.declared.view.Hold.{Hold}
-use Rattle.phase_claims.specs.declared.view.Hold.TheVariants as hold
 use Rattle.phase_claims.specs.declared.view.Scope.{Scope}
 use Rattle.phase_claims.specs.declared.view.View.{View}
 use Rattle.phase_claims.specs.Running.{FitsStage, Running}
@@ -18,11 +18,11 @@ use Rattle.phase_claims.specs.Views.{held_by, holds, holds_in, performed_by, per
 use Rattle.phase_claims.proofs.Counts.{total_pair}
 
 -- what a stage holds and has not worked
-abbrev pub left_in : Hold → ℕ → ℕ → ℕ
-left_in hold.Idle at x = 0
-left_in (hold.Held a b) at x = among a b x
-left_in (hold.Open a m b) at x = among at b x
-left_in hold.Ended at x = 0
+abbrev pub left_in : Stage → ℕ → ℕ → ℕ
+left_in stage.Idle at x = 0
+left_in (stage.Held a b) at x = among a b x
+left_in (stage.Open a m b) at x = among at b x
+left_in stage.Ended at x = 0
 
 abbrev pub left : ℕ → View → ℕ
 left x v = left_in v.stage v.at x
@@ -34,12 +34,12 @@ module _ (k : Scope) (w n : ℕ) (views : List View) (r : Running k w n views) w
   abbrev g : ℕ
   g = min w (unit_count k.plan)
 
-  two_ways : (x at : ℕ) (s : Hold) → FitsStage N n s at
+  two_ways : (x at : ℕ) (s : Stage) → FitsStage N n s at
       → worked_in s at x + left_in s at x ≡ holds_in s x
-  two_ways x at hold.Idle f = sym (among_none 0 x)
-  two_ways x at (hold.Held a b) f = (let z : 0 + among a b x ≡ among a b x = omega arith in z)
-  two_ways x at (hold.Open a m b) f = sym (among_two a at b x f.0 (omega (arith, f.1, f.2)))
-  two_ways x at hold.Ended f = sym (among_none 0 x)
+  two_ways x at stage.Idle f = sym (among_none 0 x)
+  two_ways x at (stage.Held a b) f = (let z : 0 + among a b x ≡ among a b x = omega arith in z)
+  two_ways x at (stage.Open a m b) f = sym (among_two a at b x f.0 (omega (arith, f.1, f.2)))
+  two_ways x at stage.Ended f = sym (among_none 0 x)
 
   pub once : (x : ℕ) → worked_by views x + total (left x) views ≡ once_below x g
   once x = total_pair (worked x) (left x) (performs x) (holds x) views
@@ -57,13 +57,13 @@ module _ (k : Scope) (w n : ℕ) (views : List View) (r : Running k w n views) w
     total_le (performs x) (worked x) views (λ i v e. omega arith),
   )
 
-  none_past : (x at : ℕ) (s : Hold) → phase_end N n ≤ x → FitsStage N n s at → worked_in s at x ≡ 0
-  none_past x at hold.Idle l f = refl
-  none_past x at (hold.Held a b) l f = refl
-  none_past x at (hold.Open a m b) l f = dite (dec_le 1 (among a at x))
+  none_past : (x at : ℕ) (s : Stage) → phase_end N n ≤ x → FitsStage N n s at → worked_in s at x ≡ 0
+  none_past x at stage.Idle l f = refl
+  none_past x at (stage.Held a b) l f = refl
+  none_past x at (stage.Open a m b) l f = dite (dec_le 1 (among a at x))
       (λ is. absurd (omega (arith, (is_among a at x is).1, f.1, f.4, l)))
       (λ out. let z : among a at x < 1 = lt_of_not-le out in omega (arith, z))
-  none_past x at hold.Ended l f = refl
+  none_past x at stage.Ended l f = refl
 
   pub after : (x : ℕ) → phase_end N n ≤ x → worked_by views x ≡ 0
   after x l =

@@ -1,9 +1,9 @@
 -- Small worked cases: a floor of three nodes and four passes.
 use Rattle.std.specs.Prelude.{◌≡◌, ◌∷◌, [], List, None, refl}
 use Rattle.dta_model.specs.Units.{phase_end, task_of, unit_count}
+use Rattle.dta_model.specs.declared.machine.Stage.TheVariants as stage
 use Rattle.net_core.specs.declared.rows.NodeRow.{NodeRow}
 use Rattle.claim_core.specs.declared.units.UnitKind.TheVariants as kind
-use Rattle.phase_claims.specs.declared.view.Hold.TheVariants as hold
 use Rattle.phase_claims.specs.declared.view.Scope.{Scope}
 use Rattle.phase_claims.specs.declared.view.View.{View}
 use Rattle.phase_claims.specs.Passes.{unit_at}
@@ -61,11 +61,11 @@ drawn = holding (beginning four_passes 3) 1 4
 abbrev pub at_second : View
 at_second = at_next (having_open drawn 2)
 
-four_are_held : drawn.stage ≡ hold.Held 1 5
+four_are_held : drawn.stage ≡ stage.Held 1 5
 unfolding unit_count
 four_are_held = refl
 
-two_are_open : at_second.stage ≡ hold.Open 1 3 5
+two_are_open : at_second.stage ≡ stage.Open 1 3 5
 unfolding phase_end task_of unit_count
 two_are_open = refl
 
@@ -79,7 +79,7 @@ none_is_performed = refl
 
 two_are_left : done_with at_second
     ≡ record (beginning four_passes 3) {
-      stage = hold.Held 3 5;
+      stage = stage.Held 3 5;
       at = 2;
       performed = 1 ∷ 2 ∷ [];
       seen = 2;
@@ -90,7 +90,7 @@ two_are_left = refl
 
 -- of four numbers from the last unit on, which is the posting of the last step, three are past it
 three_are_past : holding (beginning four_passes 0) 419 4
-    ≡ record (beginning four_passes 0) { stage = hold.Held 419 420; past = 3 }
+    ≡ record (beginning four_passes 0) { stage = stage.Held 419 420; past = 3 }
 unfolding unit_count
 three_are_past = refl
 
@@ -98,7 +98,7 @@ three_are_past = refl
 split_and_joined : joined (less_spare (done_with at_work)) (ended (beginning four_passes 0) 1)
     ≡ record {
       scope = four_passes;
-      stage = hold.Ended;
+      stage = stage.Ended;
       at = 0;
       told = [];
       spare = 2;

@@ -1,40 +1,33 @@
 -- What the running rule of a floor says, between any two steps, whatever the threads do.
-use Rattle.std.specs.List.{flat_map}
-use Rattle.std.specs.Prelude.{◌≡◌, ◌≢◌, ℕ, ◌+◌, ◌≤◌, List, [], ◌∷◌, ◌++◌, map}
+use Rattle.std.specs.Prelude.{◌≡◌, ◌≢◌, ℕ, ◌+◌, ◌<◌, ◌≤◌, true, List, map, slice_set}
 use mathlib.Core.Option.{some}
 use lib.ListN.{get_elem?}
 use Rattle.atomic_table.specs.Table.{State}
-use Rattle.dta_model.specs.Machine.{Claims, finished}
+use Rattle.dta_model.specs.Machine.{Claims, finished, first_in, fits_chunk, open_end}
+use Rattle.dta_model.specs.Machine.{step_machine}
 use Rattle.dta_model.specs.State.{eight_after}
-use Rattle.dta_model.specs.Units.{node_count, phase_start, posting_part}
+use Rattle.dta_model.specs.Units.{node_count, phase_start, posting_part, unit_count}
 use Rattle.dta_model.specs.declared.eight.Eight.{Eight}
-use Rattle.dta_model.specs.declared.machine.Stage.{Stage}
+use Rattle.dta_model.specs.declared.machine.Event.TheVariants as event
 use Rattle.dta_model.specs.declared.machine.Stage.TheVariants as stage
 use Rattle.dta_model.specs.declared.plan.Plan.{Plan}
 use Rattle.claim_core.specs.Parts.{done_in, stage_of}
-use Rattle.claim_core.specs.Runs.{among, numbers}
+use Rattle.claim_core.specs.Runs.{among}
 use Rattle.claim_core.specs.Sums.{total}
 use Rattle.phase_claims.specs.declared.part.Part.{Part}
 use Rattle.phase_claims.specs.declared.part.Part.TheVariants.{Writer}
-use Rattle.phase_claims.specs.declared.view.Hold.{Hold}
-use Rattle.phase_claims.specs.declared.view.Hold.TheVariants as hold
 use Rattle.phase_claims.specs.declared.view.Scope.{Scope}
 use Rattle.phase_claims.specs.declared.view.View.{View}
 use Rattle.monitors.specs.Posted.{IsPrefix, last_of}
+use Rattle.phase_claims.specs.Passes.{IsHeld, IsOpen}
 use Rattle.phase_claims.specs.PlacesHome.{has_slot, posted_in}
 use Rattle.phase_claims.specs.Running.{EarlierArePerformed, Holds}
-use Rattle.phase_claims.specs.Views.{first_in, held_by, holds, open_end, performed_by}
+use Rattle.phase_claims.specs.Views.{done_with, ended, first_of_phase, having_open, held_by}
+use Rattle.phase_claims.specs.Views.{holding, holds, performed_by, seeing}
 
--- the workers of the claim machine that a pass with a chunk is: one for each number that it holds
-abbrev pub workers_of : Hold → List Stage
-workers_of hold.Idle = stage.Idle ∷ []
-workers_of (hold.Held a b) = map stage.Held (numbers a b)
-workers_of (hold.Open a m b) = map stage.Open (numbers a m) ++ map stage.Held (numbers m b)
-workers_of hold.Ended = stage.Ended ∷ []
-
--- the claims that the words and the views are: those of all these workers
+-- the claims that the words and the views are: a pass is a worker of the claim machine
 abbrev pub claims_of : ℕ → List View → Claims
-claims_of drawn views = record { drawn = drawn; stages = flat_map (λ v. workers_of v.stage) views }
+claims_of drawn views = record { drawn = drawn; stages = map (λ v. v.stage) views }
 
 -- how often a pass has unit x open
 abbrev pub opens : ℕ → View → ℕ
@@ -78,6 +71,36 @@ pub record AreClaims (k : Scope) (s : State Part View) (h : Holds k s) : Type 0 
 
 abbrev pub FloorsAreClaims : Type 0
 FloorsAreClaims = (k : Scope) (s : State Part View) (h : Holds k s) → AreClaims k s h
+
+-- what a step makes of the view of a pass is, of the claims, what an event of its worker makes
+pub record MakesEvents (drawn by : ℕ) (views : List View) (v : View) : Type 0 where
+  -- a claim of so many numbers: the first one drawn is that of a unit, or of none
+  pub draws : (many : ℕ) → v.stage ≡ stage.Idle → fits_chunk many ≡ true
+      → drawn < unit_count v.scope.plan
+      → claims_of (drawn + many) (slice_set views by (holding v drawn many))
+      ≡ step_machine v.scope.plan (claims_of drawn views) (event.ClaimChunk by many)
+  pub ends : (many : ℕ) → v.stage ≡ stage.Idle → fits_chunk many ≡ true
+      → unit_count v.scope.plan ≤ drawn
+      → claims_of (drawn + many) (slice_set views by (ended v many))
+      ≡ step_machine v.scope.plan (claims_of drawn views) (event.ClaimChunk by many)
+  -- an open that sees so many finished units: they are at least those before the phase, or fewer
+  pub opens : IsHeld v.stage → (seen : ℕ)
+      → first_of_phase v ≤ finished v.scope.plan (claims_of drawn views)
+      → claims_of drawn (slice_set views by (having_open v seen))
+      ≡ step_machine v.scope.plan (claims_of drawn views) (event.Open by)
+  pub waits : IsHeld v.stage → (seen : ℕ)
+      → finished v.scope.plan (claims_of drawn views) < first_of_phase v
+      → claims_of drawn (slice_set views by (seeing v seen))
+      ≡ step_machine v.scope.plan (claims_of drawn views) (event.Open by)
+  -- a finish of the open units
+  pub finishes : IsOpen v.stage
+      → claims_of drawn (slice_set views by (done_with v))
+      ≡ step_machine v.scope.plan (claims_of drawn views) (event.Finish by)
+
+abbrev pub StepsAreEvents : Type 0
+StepsAreEvents =
+    (drawn by : ℕ) (views : List View) (v : View) → get_elem? views by ≡ some v
+    → MakesEvents drawn by views v
 
 -- a list with which the states of the first steps begin: what it shows is the state after one of
 -- these steps, or before the first. So it is of each list that a monitor of a floor's board has

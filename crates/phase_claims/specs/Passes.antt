@@ -3,7 +3,10 @@ use Rattle.std.specs.Prelude.{◌≡◌, ◌≢◌, ℕ, suc, ◌+◌, ◌<◌, 
 use Rattle.std.specs.Prelude.{List, Option, Some, None}
 use Rattle.atomic_table.specs.Seated.{TableId}
 use Rattle.atomic_table.specs.Table.{Me}
+use Rattle.dta_model.specs.Machine.{first_in, held_end, open_end}
 use Rattle.dta_model.specs.Units.{node_count, phase_end, step_of, task_of, unit_count}
+use Rattle.dta_model.specs.declared.machine.Stage.{Stage}
+use Rattle.dta_model.specs.declared.machine.Stage.TheVariants as stage
 use Rattle.dta_model.specs.declared.plan.Plan.{Plan}
 use Rattle.claim_core.specs.Kinds.{kind_by}
 use Rattle.claim_core.specs.Phases.{IsPhase, phase_of}
@@ -15,15 +18,12 @@ use Rattle.phase_claims.specs.declared.unit.Chunk.{Chunk}
 use Rattle.phase_claims.specs.declared.unit.Open.{Open}
 use Rattle.phase_claims.specs.declared.unit.Open.TheVariants as answer
 use Rattle.phase_claims.specs.declared.unit.Unit.{Unit as LoadingUnit}
-use Rattle.phase_claims.specs.declared.view.Hold.{Hold}
-use Rattle.phase_claims.specs.declared.view.Hold.TheVariants as hold
 use Rattle.phase_claims.specs.declared.view.Scope.{Scope}
 use Rattle.phase_claims.specs.declared.view.View.{View}
 use Rattle.phase_claims.specs.PlacesHome.{carried}
 use Rattle.phase_claims.specs.Running.{EarlierArePerformed, StandsIn}
-use Rattle.phase_claims.specs.Views.{at_next, done_with, ended, first_in, first_of_phase}
-use Rattle.phase_claims.specs.Views.{having_open, held_end, holding, open_end, performed_count}
-use Rattle.phase_claims.specs.Views.{seeing}
+use Rattle.phase_claims.specs.Views.{at_next, done_with, ended, first_of_phase, having_open}
+use Rattle.phase_claims.specs.Views.{holding, performed_count, seeing}
 
 -- a floor: its table, and what it is for
 pub record FloorState : Type 0 where
@@ -41,31 +41,31 @@ pub record IsOf (f : FloorState) (p : PassState) : Type 0 where
   pub scope : p.view.scope ≡ f.scope
 
 -- it holds numbers of which none is open, it has some open, or it holds none
-abbrev pub IsHeld : Hold → Type 0
-IsHeld s = s ≡ hold.Held (first_in s) (held_end s)
+abbrev pub IsHeld : Stage → Type 0
+IsHeld s = s ≡ stage.Held (first_in s) (held_end s)
 
-abbrev pub IsOpen : Hold → Type 0
-IsOpen s = s ≡ hold.Open (first_in s) (open_end s) (held_end s)
+abbrev pub IsOpen : Stage → Type 0
+IsOpen s = s ≡ stage.Open (first_in s) (open_end s) (held_end s)
 
-abbrev pub holds_no_unit : Hold → Bool
-holds_no_unit hold.Idle = true
-holds_no_unit (hold.Held a b) = false
-holds_no_unit (hold.Open a m b) = false
-holds_no_unit hold.Ended = true
+abbrev pub holds_no_unit : Stage → Bool
+holds_no_unit stage.Idle = true
+holds_no_unit (stage.Held a b) = false
+holds_no_unit (stage.Open a m b) = false
+holds_no_unit stage.Ended = true
 
-abbrev pub HoldsNoUnit : Hold → Type 0
+abbrev pub HoldsNoUnit : Stage → Type 0
 HoldsNoUnit s = holds_no_unit s ≡ true
 
 -- the unit that it is at is one of those that it has open, where it has some
-abbrev pub IsAmongOpen : Hold → ℕ → Type 0
-IsAmongOpen hold.Idle at = Unit {0}
-IsAmongOpen (hold.Held a b) at = Unit {0}
-IsAmongOpen (hold.Open a m b) at = (a ≤ at) × (at < m)
-IsAmongOpen hold.Ended at = Unit {0}
+abbrev pub IsAmongOpen : Stage → ℕ → Type 0
+IsAmongOpen stage.Idle at = Unit {0}
+IsAmongOpen (stage.Held a b) at = Unit {0}
+IsAmongOpen (stage.Open a m b) at = (a ≤ at) × (at < m)
+IsAmongOpen stage.Ended at = Unit {0}
 
 -- it may get units still
-abbrev pub HasNotEnded : Hold → Type 0
-HasNotEnded s = s ≢ hold.Ended
+abbrev pub HasNotEnded : Stage → Type 0
+HasNotEnded s = s ≢ stage.Ended
 
 -- what a unit does, and what the one does that a pass is at
 abbrev pub kind_at : Plan → ℕ → UnitKind
@@ -138,20 +138,20 @@ pub record PerformsNext (old new : View) : Type 0 where
 
 -- the numbers that a pass holds are units of the plan; the open ones, of which it is at one, are of
 -- one phase
-abbrev pub IsInside : Plan → Hold → ℕ → Type 0
-IsInside p hold.Idle at = Unit {0}
-IsInside p (hold.Held a b) at = (a < b) × (b ≤ unit_count p)
-IsInside p (hold.Open a m b) at =
+abbrev pub IsInside : Plan → Stage → ℕ → Type 0
+IsInside p stage.Idle at = Unit {0}
+IsInside p (stage.Held a b) at = (a < b) × (b ≤ unit_count p)
+IsInside p (stage.Open a m b) at =
     (a ≤ at) × (at < m) × (m ≤ phase_end (node_count p) a) × (m ≤ b) × (b ≤ unit_count p)
-IsInside p hold.Ended at = Unit {0}
+IsInside p stage.Ended at = Unit {0}
 
 -- the phase of the first number that a pass holds, and of the unit that it is at; else one that it
 -- had
-abbrev pub IsLastPhase : ℕ → Hold → ℕ → Phase → Type 0
-IsLastPhase nodes hold.Idle at last = IsPhase nodes last
-IsLastPhase nodes (hold.Held a b) at last = last ≡ phase_of nodes a
-IsLastPhase nodes (hold.Open a m b) at last = last ≡ phase_of nodes at
-IsLastPhase nodes hold.Ended at last = IsPhase nodes last
+abbrev pub IsLastPhase : ℕ → Stage → ℕ → Phase → Type 0
+IsLastPhase nodes stage.Idle at last = IsPhase nodes last
+IsLastPhase nodes (stage.Held a b) at last = last ≡ phase_of nodes a
+IsLastPhase nodes (stage.Open a m b) at last = last ≡ phase_of nodes at
+IsLastPhase nodes stage.Ended at last = IsPhase nodes last
 
 -- its fields say where it stands
 pub record IsPlace (v : View) (own : Place) : Type 0 where

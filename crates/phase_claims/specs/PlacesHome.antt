@@ -6,14 +6,14 @@ use Rattle.net_core.specs.Network.{numbers_below}
 use Rattle.dta_model.specs.State.{eight_after}
 use Rattle.dta_model.specs.Units.{node_count, places, posting_part}
 use Rattle.dta_model.specs.declared.eight.Eight.{Eight}
+use Rattle.dta_model.specs.declared.machine.Stage.{Stage}
+use Rattle.dta_model.specs.declared.machine.Stage.TheVariants as stage
 use Rattle.dta_model.specs.declared.plan.Plan.{Plan}
 use Rattle.cell_stages.specs.Contents.{cell_at, mail_at}
 use Rattle.claim_core.specs.Parts.{moves, stage_before, stage_of}
 use Rattle.claim_core.specs.Sums.{times, total}
 use Rattle.phase_claims.specs.declared.part.Part.{Part}
 use Rattle.phase_claims.specs.declared.part.Part.TheVariants.{Cell, Mail, Writer}
-use Rattle.phase_claims.specs.declared.view.Hold.{Hold}
-use Rattle.phase_claims.specs.declared.view.Hold.TheVariants as hold
 use Rattle.phase_claims.specs.declared.view.Scope.{Scope}
 use Rattle.phase_claims.specs.declared.view.View.{View}
 use Rattle.phase_claims.specs.Views.{worked_by}
@@ -38,11 +38,11 @@ parts_of part (slot ∷ slots) at = (slot, part slot (at slot)) ∷ parts_of par
 
 -- how often a pass has a place with it: once where it is at an open unit and the place is a place
 -- of that
-abbrev pub has_slot : Plan → ℕ → Hold → ℕ → ℕ
-has_slot p slot hold.Idle at = 0
-has_slot p slot (hold.Held a b) at = 0
-has_slot p slot (hold.Open a m b) at = times slot (places p at)
-has_slot p slot hold.Ended at = 0
+abbrev pub has_slot : Plan → ℕ → Stage → ℕ → ℕ
+has_slot p slot stage.Idle at = 0
+has_slot p slot (stage.Held a b) at = 0
+has_slot p slot (stage.Open a m b) at = times slot (places p at)
+has_slot p slot stage.Ended at = 0
 
 -- a place that no pass has is at home with its part, and one that a pass has is out
 abbrev pub home_of : {S : Type 0} → ℕ → S → Option S
@@ -61,11 +61,11 @@ abbrev pub taken : Scope → ℕ → List (ℕ × Part)
 taken k c = parts_of (part_at k) (places k.plan c) (stage_before k.plan c)
 
 -- what a pass has with it: what the unit that it is at has taken
-abbrev pub carried : Scope → Hold → ℕ → List (ℕ × Part)
-carried k hold.Idle at = []
-carried k (hold.Held a b) at = []
-carried k (hold.Open a m b) at = taken k at
-carried k hold.Ended at = []
+abbrev pub carried : Scope → Stage → ℕ → List (ℕ × Part)
+carried k stage.Idle at = []
+carried k (stage.Held a b) at = []
+carried k (stage.Open a m b) at = taken k at
+carried k stage.Ended at = []
 
 -- what a unit brings, once its work is done: what it moves is at the next stage
 abbrev pub brought : Scope → ℕ → List (ℕ × Part)

@@ -2,6 +2,7 @@
 -- found, and what it is after.
 use Rattle.std.specs.Prelude.{◌≡◌, ℕ, suc, ◌+◌, ◌*◌, ◌<◌, ◌≤◌, []}
 use Rattle.atomic_table.specs.Table.{Me, Step}
+use Rattle.dta_model.specs.Machine.{first_in}
 use Rattle.dta_model.specs.Units.{Gather, node_count, step_of, task_of, unit_count}
 use Rattle.node_transfer.specs.Rest.{NobodyComes}
 use Rattle.phase_claims.specs.declared.floor.TheConstants.{MOST_PASSES}
@@ -11,9 +12,8 @@ use Rattle.phase_claims.specs.declared.work_told.TheConstants.{FIRST_NODE_WORD}
 use Rattle.phase_claims.specs.PlacesHome.{carried, taken}
 use Rattle.phase_claims.specs.Told.{KeepsRooms}
 use Rattle.phase_claims.specs.Running.{EarlierArePerformed, StandsIn}
-use Rattle.phase_claims.specs.Views.{at_next, done_with, ended, first_in, first_of_phase}
-use Rattle.phase_claims.specs.Views.{having_open, holding, performed_count, rights, seeing}
-use Rattle.phase_claims.specs.Views.{telling}
+use Rattle.phase_claims.specs.Views.{at_next, done_with, ended, first_of_phase, having_open}
+use Rattle.phase_claims.specs.Views.{holding, performed_count, rights, seeing, telling}
 
 -- a draw of so many numbers: the pass holds those of units or, where there is none, has ended
 pub record DrawsNumbers (old : View) (many number : ℕ) (new : View) : Type 0 where

@@ -5,12 +5,13 @@ use mathlib.Core.Option.{some}
 use lib.ListN.{get_elem?}
 use Rattle.atomic_table.specs.Table.{State}
 use Rattle.dta_model.specs.Units.{node_count, phase_end, phase_start, unit_count}
+use Rattle.dta_model.specs.declared.machine.Stage.{Stage}
+use Rattle.dta_model.specs.declared.machine.Stage.TheVariants as stage
+use Rattle.dta_model.specs.declared.machine.TheConstants.{MOST_CHUNK}
 use Rattle.claim_core.specs.Claimed.{Claimed}
 use Rattle.claim_core.specs.Sums.{total}
-use Rattle.phase_claims.specs.declared.floor.TheConstants.{MOST_CHUNK, MOST_PASSES}
+use Rattle.phase_claims.specs.declared.floor.TheConstants.{MOST_PASSES}
 use Rattle.phase_claims.specs.declared.part.Part.{Part}
-use Rattle.phase_claims.specs.declared.view.Hold.{Hold}
-use Rattle.phase_claims.specs.declared.view.Hold.TheVariants as hold
 use Rattle.phase_claims.specs.declared.view.Scope.{Scope}
 use Rattle.phase_claims.specs.declared.view.View.{View}
 use Rattle.phase_claims.specs.PlacesHome.{AreHome}
@@ -20,20 +21,20 @@ use Rattle.phase_claims.specs.Views.{performed_count, rights}
 
 -- how many numbers of no unit a pass may have drawn: those of a chunk that goes past the last unit,
 -- and of one that begins past it, after which it has ended
-abbrev pub FitsPast : Hold → ℕ → ℕ → Type 0
-FitsPast hold.Ended weight past = (1 ≤ past) × (past ≤ weight * (2 * MOST_CHUNK))
-FitsPast hold.Idle weight past = past ≤ weight * MOST_CHUNK
-FitsPast (hold.Held a b) weight past = past ≤ weight * MOST_CHUNK
-FitsPast (hold.Open a m b) weight past = past ≤ weight * MOST_CHUNK
+abbrev pub FitsPast : Stage → ℕ → ℕ → Type 0
+FitsPast stage.Ended weight past = (1 ≤ past) × (past ≤ weight * (2 * MOST_CHUNK))
+FitsPast stage.Idle weight past = past ≤ weight * MOST_CHUNK
+FitsPast (stage.Held a b) weight past = past ≤ weight * MOST_CHUNK
+FitsPast (stage.Open a m b) weight past = past ≤ weight * MOST_CHUNK
 
 -- the numbers that a pass holds are in order, and with them the unit that it is at; the open ones
 -- are of the phase in which the number of finished units stands
-abbrev pub FitsStage : ℕ → ℕ → Hold → ℕ → Type 0
-FitsStage n finished hold.Idle at = Unit {0}
-FitsStage n finished (hold.Held a b) at = a < b
-FitsStage n finished (hold.Open a m b) at =
+abbrev pub FitsStage : ℕ → ℕ → Stage → ℕ → Type 0
+FitsStage n finished stage.Idle at = Unit {0}
+FitsStage n finished (stage.Held a b) at = a < b
+FitsStage n finished (stage.Open a m b) at =
     (a ≤ at) × (at < m) × (m ≤ b) × (phase_start n finished ≤ a) × (m ≤ phase_end n finished)
-FitsStage n finished hold.Ended at = Unit {0}
+FitsStage n finished stage.Ended at = Unit {0}
 
 -- what holds of the view of each pass, where so many units are finished
 pub record FitsView (k : Scope) (finished : ℕ) (v : View) : Type 0 where

@@ -1,13 +1,13 @@
 -- What a pass knows, its view, and what the steps make of it.
-use Rattle.std.specs.Prelude.{ℕ, suc, ◌+◌, ◌-◌, max, min, nat_lt, cond, List, [], ◌∷◌}
-use Rattle.std.specs.Prelude.{◌++◌, length}
+use Rattle.std.specs.Prelude.{ℕ, suc, ◌+◌, ◌-◌, max, min, List, [], ◌∷◌, ◌++◌, length}
 use Rattle.atomic_table.specs.Seated.{TableId}
-use Rattle.dta_model.specs.Units.{node_count, phase_end, phase_start, unit_count}
+use Rattle.dta_model.specs.Machine.{first_in, held_end, left_of, open_end, with_open}
+use Rattle.dta_model.specs.Units.{node_count, phase_start, unit_count}
+use Rattle.dta_model.specs.declared.machine.Stage.{Stage}
+use Rattle.dta_model.specs.declared.machine.Stage.TheVariants as stage
 use Rattle.dta_model.specs.declared.queue.Queue.TheVariants as queue
 use Rattle.claim_core.specs.Runs.{among, numbers}
 use Rattle.claim_core.specs.Sums.{times, total}
-use Rattle.phase_claims.specs.declared.view.Hold.{Hold}
-use Rattle.phase_claims.specs.declared.view.Hold.TheVariants as hold
 use Rattle.phase_claims.specs.declared.view.Scope.{Scope}
 use Rattle.phase_claims.specs.declared.view.View.{View}
 
@@ -15,7 +15,7 @@ use Rattle.phase_claims.specs.declared.view.View.{View}
 abbrev pub beginning : Scope → ℕ → View
 beginning k spare = record {
   scope = k;
-  stage = hold.Idle;
+  stage = stage.Idle;
   at = 0;
   told = [];
   spare = spare;
@@ -56,7 +56,7 @@ no_scope = record {
 abbrev pub nobody : View
 nobody = record {
   scope = no_scope;
-  stage = hold.Idle;
+  stage = stage.Idle;
   at = 0;
   told = [];
   spare = 0;
@@ -67,39 +67,20 @@ nobody = record {
   looks = 0;
 }
 
--- the first number that is held, open or not, the end of the open ones, and the end of all, or 0
-abbrev pub first_in : Hold → ℕ
-first_in hold.Idle = 0
-first_in (hold.Held a b) = a
-first_in (hold.Open a m b) = a
-first_in hold.Ended = 0
-
-abbrev pub open_end : Hold → ℕ
-open_end hold.Idle = 0
-open_end (hold.Held a b) = a
-open_end (hold.Open a m b) = m
-open_end hold.Ended = 0
-
-abbrev pub held_end : Hold → ℕ
-held_end hold.Idle = 0
-held_end (hold.Held a b) = b
-held_end (hold.Open a m b) = b
-held_end hold.Ended = 0
-
 -- the first unit of the phase of the first number
 abbrev pub first_of_phase : View → ℕ
 first_of_phase v = phase_start (node_count v.scope.plan) (first_in v.stage)
 
 -- how often number x is held, open or not
-abbrev pub holds_in : Hold → ℕ → ℕ
+abbrev pub holds_in : Stage → ℕ → ℕ
 holds_in s x = among (first_in s) (held_end s) x
 
 -- how often unit x is an open one before that at which a pass is
-abbrev pub worked_in : Hold → ℕ → ℕ → ℕ
-worked_in hold.Idle at x = 0
-worked_in (hold.Held a b) at x = 0
-worked_in (hold.Open a m b) at x = among a at x
-worked_in hold.Ended at x = 0
+abbrev pub worked_in : Stage → ℕ → ℕ → ℕ
+worked_in stage.Idle at x = 0
+worked_in (stage.Held a b) at x = 0
+worked_in (stage.Open a m b) at x = among a at x
+worked_in stage.Ended at x = 0
 
 -- how many units a pass has performed, how often it has performed unit x, and how often it holds
 -- it
@@ -133,20 +114,16 @@ worked_by views x = total (worked x) views
 -- it drew so many numbers from a on, of which the first is a unit's: it holds those of units
 abbrev pub holding : View → ℕ → ℕ → View
 holding v a many = record v {
-  stage = hold.Held a (min (a + many) (unit_count v.scope.plan));
+  stage = stage.Held a (min (a + many) (unit_count v.scope.plan));
   past = v.past + (a + many - unit_count v.scope.plan);
 }
 
 -- it has ended: it drew so many numbers of no unit
 abbrev pub ended : View → ℕ → View
-ended v many = record v { stage = hold.Ended; past = v.past + many }
+ended v many = record v { stage = stage.Ended; past = v.past + many }
 
 -- it has looked: where so many are finished it has those of its units open that are of the phase of
 -- the first one, and is at the first
-abbrev pub with_open : ℕ → Hold → Hold
-with_open n s =
-    hold.Open (first_in s) (min (held_end s) (phase_end n (first_in s))) (held_end s)
-
 abbrev pub having_open : View → ℕ → View
 having_open v finished = record v {
   stage = with_open (node_count v.scope.plan) v.stage;
@@ -165,10 +142,6 @@ abbrev pub telling : View → ℕ → View
 telling v n = record v { told = n ∷ v.told }
 
 -- it has performed its open units, and holds the others, if there are any
-abbrev pub left_of : Hold → Hold
-left_of s =
-    cond (nat_lt (open_end s) (held_end s)) (hold.Held (open_end s) (held_end s)) hold.Idle
-
 abbrev pub done_with : View → View
 done_with v = record v {
   stage = left_of v.stage;
@@ -185,11 +158,11 @@ abbrev pub less_spare : View → View
 less_spare v = record v { spare = v.spare - 1 }
 
 -- two passes in one, which has ended where one of them had
-abbrev pub both_stages : Hold → Hold → Hold
-both_stages hold.Ended b = hold.Ended
-both_stages hold.Idle b = b
-both_stages (hold.Held c e) b = b
-both_stages (hold.Open c m e) b = b
+abbrev pub both_stages : Stage → Stage → Stage
+both_stages stage.Ended b = stage.Ended
+both_stages stage.Idle b = b
+both_stages (stage.Held c e) b = b
+both_stages (stage.Open c m e) b = b
 
 abbrev pub joined : View → View → View
 joined v u = record {

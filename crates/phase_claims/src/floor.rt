@@ -2,6 +2,7 @@
 ghost use Rattle.atomic_table.specs.Table.{State};
 ghost use Rattle.std.specs.Prelude.{◌≡◌, ◌≢◌, ◌<◌, ◌≤◌, ◌-◌, [], suc, IfErr, IfOk, IsOk, Some};
 ghost use Rattle.dta_model.specs.Lent.{plan_of};
+ghost use Rattle.dta_model.specs.Machine.{first_in, open_end};
 ghost use Rattle.dta_model.specs.Sound.{IsSound};
 ghost use Rattle.dta_model.specs.Units.{node_count, step_of, task_of, unit_count};
 ghost use Rattle.phase_claims.specs.Passes.{Claims, ClaimsChunk, HoldsNoUnit, IsHeld, IsOf, IsOpen};
@@ -13,8 +14,8 @@ ghost use Rattle.phase_claims.specs.PlacesHome.{brought, carried, taken};
 ghost use Rattle.phase_claims.specs.Running.{Holds};
 ghost use Rattle.phase_claims.specs.Told.{HasOnlyTold, TellsAll};
 ghost use Rattle.claim_core.specs.Kinds.{half_by};
-ghost use Rattle.phase_claims.specs.Views.{at_next, beginning, done_with, first_in, joined};
-ghost use Rattle.phase_claims.specs.Views.{less_spare, open_end, rights};
+ghost use Rattle.phase_claims.specs.Views.{at_next, beginning, done_with, joined, less_spare};
+ghost use Rattle.phase_claims.specs.Views.{rights};
 
 use crate::part::Part;
 use crate::pass::{Pass, Place};
@@ -24,14 +25,14 @@ use crate::rule::{
 };
 use crate::start::{parts_at_start, words_at_start};
 use crate::unit::{Chunk, Open, Unit};
-use crate::view::{Hold, View};
+use crate::view::View;
 use crate::work_close::{drop_parts, take_parts};
 use crate::work_posting::post_held;
 use crate::work_told::{rests, tell_all};
 use crate::work_unit::work_held;
 use atomic_table::{Table, TableRule};
 use claim_core::{UnitKind, Units};
-use dta_model::{Loaded, Loading};
+use dta_model::{Loaded, Loading, MOST_CHUNK, Stage};
 use monitors::{Board, WriterPass};
 use net_core::Memory;
 use node_transfer::{Half, HalfStep, opening};
@@ -41,9 +42,6 @@ use std::sync::Wait;
 
 /// The most passes that a floor can have.
 pub const MOST_PASSES: u32 = 64;
-
-/// The most numbers that a claim can draw.
-pub const MOST_CHUNK: u32 = 256;
 
 // The word that never changes, so far behind those that do that it lies in another line of memory:
 // to read it takes no longer than to read what only one processor has.
@@ -186,7 +184,7 @@ impl<'a> Floor<'a> {
     #[tactic(auto, unfolding(dta_model::specs::Units::unit_count))]
     pub fn claim(&self, pass: &mut Pass) -> Option<Unit>
         requires own { IsOf self.now pass.old }
-        requires idle { pass.old.view.stage ≡ Hold.Idle }
+        requires idle { pass.old.view.stage ≡ Stage.Idle }
         ensures table { pass.new.table ≡ pass.old.table }
         ensures told { Claims self.now.scope.plan pass.old.view result pass.new.view }
     {
@@ -204,7 +202,7 @@ impl<'a> Floor<'a> {
     #[tactic(auto, unfolding(dta_model::specs::Units::unit_count))]
     pub fn claim_chunk(&self, pass: &mut Pass, many: u32) -> Option<Chunk>
         requires own { IsOf self.now pass.old }
-        requires idle { pass.old.view.stage ≡ Hold.Idle }
+        requires idle { pass.old.view.stage ≡ Stage.Idle }
         requires least { 1 ≤ many }
         requires most { many ≤ MOST_CHUNK }
         ensures table { pass.new.table ≡ pass.old.table }
@@ -214,11 +212,11 @@ impl<'a> Floor<'a> {
         let first = self.table.shared.fetch_add::<Draw>(&mut pass.seat, 1, many);
         let count = self.count();
         if first >= count {
-            pass.place.stage = Hold::Ended;
+            pass.place.stage = Stage::Ended;
             return None;
         }
         let end = (first + many).min(count);
-        pass.place.stage = Hold::Held(first, end);
+        pass.place.stage = Stage::Held(first, end);
         pass.place.phase = self.units.phase_from(pass.place.phase, first);
         Some(Chunk { first, end })
     }
@@ -232,13 +230,13 @@ impl<'a> Floor<'a> {
         ensures told { Opens pass.old.view result pass.new.view }
         ensures alone { rights pass.old.view ≡ self.now.scope.passes → result ≡ Open.Yes }
     {
-        let Hold::Held(first, end) = pass.place.stage else {
+        let Stage::Held(first, end) = pass.place.stage else {
             unreachable!()
         };
         let phase = pass.place.phase;
         let finished = self.table.shared.load::<Look>(&mut pass.seat, 2);
         if phase.first <= finished {
-            pass.place.stage = Hold::Open(first, end.min(phase.end), end);
+            pass.place.stage = Stage::Open(first, end.min(phase.end), end);
             pass.place.next = first;
             Open::Yes
         } else {
@@ -362,7 +360,7 @@ impl<'a> Floor<'a> {
             ≡ carried seat.new.me.0.scope seat.new.me.0.stage seat.new.me.0.at }
         ensures place { IsPlace seat.new.me.0 place.new }
     {
-        let Hold::Open(first, middle, end) = place.stage else {
+        let Stage::Open(first, middle, end) = place.stage else {
             unreachable!()
         };
         let next = place.next + 1;
@@ -373,10 +371,10 @@ impl<'a> Floor<'a> {
         }
         self.finish(seat, middle - first);
         if middle < end {
-            place.stage = Hold::Held(middle, end);
+            place.stage = Stage::Held(middle, end);
             place.phase = self.units.phase_from(place.phase, middle);
         } else {
-            place.stage = Hold::Idle;
+            place.stage = Stage::Idle;
         }
     }
 
@@ -461,7 +459,7 @@ impl<'a> Floor<'a> {
         self.table.shared.join_seat::<Glue>(&mut seat, other);
         self.table.shared.load::<Bound>(&mut seat, 0);
         let stage = match a.place.stage {
-            Hold::Ended => Hold::Ended,
+            Stage::Ended => Stage::Ended,
             _ => b.place.stage,
         };
         Pass {
@@ -483,7 +481,7 @@ impl<'a> Floor<'a> {
         requires free { HoldsNoUnit pass.view.stage }
         ensures early { IfErr result (λ e. IsEarly self.entry.scope pass.view e) }
         ensures closed { IfOk result (λ r. IsClosed self.entry.scope pass.view r.0 r.1 r.2) }
-        ensures ended { pass.view.stage ≡ Hold.Ended → IsOk result }
+        ensures ended { pass.view.stage ≡ Stage.Ended → IsOk result }
     {
         let Floor {
             table,

@@ -5,11 +5,11 @@
 //! earlier phases are finished, performs them one after another, and finishes them together, as
 //! the dynamic schedule of OpenMP does. Claims and finishes are single additions and an open is one
 //! load, so no pass ever waits for another. The promise is that of the claim machine, in which a
-//! pass is a worker for each number that it holds, whatever the threads do
-//! between two steps: each unit is held or performed by one pass at most, no phase begins before
-//! the earlier ones are finished, and a place that no open unit uses has what the performed units
-//! left there. specs/Running.antt is the rule that each step keeps: [`Floor::table`] says that it
-//! is the rule of the floor's table. [`Floor::new`] alone takes memory.
+//! pass is a worker, whatever the threads do between two steps: each unit is held or performed by
+//! one pass at most, no phase begins before the earlier ones are finished, and a place that no open
+//! unit uses has what the performed units left there. specs/Running.antt is the rule that each step
+//! keeps: [`Floor::table`] says that it is the rule of the floor's table. [`Floor::new`] alone takes
+//! memory.
 #![tactic(auto)]
 
 mod floor;
@@ -31,11 +31,12 @@ mod work_told;
 mod work_unit;
 
 pub use claim_core::UnitKind;
-pub use floor::{Floor, MOST_CHUNK, MOST_PASSES};
-pub use laws::{floors_are_claims, states_are_shown};
+pub use dta_model::{MOST_CHUNK, Stage};
+pub use floor::{Floor, MOST_PASSES};
+pub use laws::{floors_are_claims, states_are_shown, steps_are_events};
 pub use part::Part;
 pub use pass::Pass;
 pub use receipt::{Early, Receipt};
 pub use rule::{Claiming, Key, PassSeat, SharedTable};
 pub use unit::{Chunk, Open, Unit};
-pub use view::{Hold, Scope, View};
+pub use view::{Scope, View};

@@ -5,8 +5,8 @@ ghost use Rattle.phase_claims.specs.Passes.{IsAmongOpen};
 ghost use Rattle.phase_claims.specs.PlacesHome.{carried};
 
 use crate::rule::PassSeat;
-use crate::view::Hold;
 use claim_core::Phase;
+use dta_model::Stage;
 use std::marker::Model;
 
 /// The right to claim, open and perform units of a floor. To a contract it is its floor's table,
@@ -22,7 +22,7 @@ pub struct Pass {
 // and the phase of the first number, or the last phase that it had.
 #[derive(Clone, Copy, Drop)]
 pub struct Place {
-    pub stage: Hold,
+    pub stage: Stage,
     pub next: u64,
     pub phase: Phase,
 }
@@ -30,12 +30,12 @@ pub struct Place {
 impl Place {
     // Of a pass that has drawn no number yet.
     pub(crate) fn none() -> Self
-        ensures stage { result.stage ≡ Hold.Idle }
+        ensures stage { result.stage ≡ Stage.Idle }
         ensures next { result.next ≡ 0 }
         ensures phase { (nodes : ℕ) → IsPhase nodes result.phase }
     {
         Place {
-            stage: Hold::Idle,
+            stage: Stage::Idle,
             next: 0,
             phase: Phase::empty(),
         }
@@ -65,7 +65,7 @@ impl Pass {
     }
 
     /// What it has of the units.
-    pub fn hold(&self) -> Hold
+    pub fn stage(&self) -> Stage
         ensures stage { result ≡ self.now.view.stage }
         ensures at { IsAmongOpen self.now.view.stage self.now.view.at }
     {

@@ -1,5 +1,5 @@
 // What a floor is for, and what its passes know, as plain data.
-use dta_model::Plan;
+use dta_model::{Plan, Stage};
 use monitors::Board;
 use std::collections::LinkedList;
 
@@ -11,26 +11,12 @@ pub struct Scope {
     pub passes: u64,
 }
 
-/// What a pass has of the units. A chunk is some numbers in a row, which one claim drew.
-#[derive(Clone, Copy, Debug, Drop)]
-pub enum Hold {
-    /// It holds no number.
-    Idle,
-    /// It holds the numbers from the first to below the second, and no unit is open.
-    Held(u64, u64),
-    /// The units from the first to below the second are open, and it holds the numbers from the
-    /// second to below the third.
-    Open(u64, u64, u64),
-    /// It drew numbers of no unit.
-    Ended,
-}
-
 /// What a pass knows. No value of it is made.
 pub struct View {
     /// What its floor is for.
     pub scope: Scope,
-    /// The numbers that it holds, if it does.
-    pub stage: Hold,
+    /// What it has of the units.
+    pub stage: Stage,
     /// The open unit whose places it has. The open ones before it are worked on, and not finished.
     pub at: u64,
     /// The nodes that it has told that somebody comes, by the unit that it is at.

@@ -1,8 +1,8 @@
 // Floors: one that is closed too early, two passes on one thread that take turns, and two threads
 // that work at the same time.
 ghost use Rattle.dta_model.specs.Lent.{plan_of};
-ghost use Rattle.phase_claims.specs.declared.floor.TheConstants.{MOST_CHUNK};
 ghost use Rattle.dta_model.specs.Sound.{IsSound};
+ghost use Rattle.dta_model.specs.declared.machine.TheConstants.{MOST_CHUNK};
 ghost use Rattle.phase_claims.specs.Crews.{HasSameRights, IsReady};
 ghost use Rattle.phase_claims.specs.Passes.{HasNotEnded, IsHeld, IsOf, IsOpen};
 ghost use Rattle.std.specs.Prelude.{◌≡◌, ◌≤◌, [], IsTrue};
@@ -12,7 +12,7 @@ use crate::{Seen, are_seen, two_links_in_a_line};
 use dta_model::{Loaded, Loading};
 use monitors::Board;
 use net_core::{Memory, NodeNo};
-use phase_claims::{Early, Floor, Hold, Open, Pass, Receipt, UnitKind};
+use phase_claims::{Early, Floor, Open, Pass, Receipt, Stage, UnitKind};
 use std::sync::Wait;
 use std::test::Fail;
 use std::thread;
@@ -53,14 +53,14 @@ fn work_on<R: Wait>(rt: &R, floor: &Floor, pass: &mut Pass)
     requires own { IsOf floor.now pass.old }
     requires on { HasNotEnded pass.old.view.stage }
     ensures own { IsOf floor.now pass.new }
-    ensures idle { pass.new.view.stage ≡ Hold.Idle }
+    ensures idle { pass.new.view.stage ≡ Stage.Idle }
     ensures rights { HasSameRights pass.old.view pass.new.view }
 {
     for _ in rt.forever() {
-        match pass.hold() {
-            Hold::Idle | Hold::Ended => break,
-            Hold::Held(_, _) => open(rt, floor, pass),
-            Hold::Open(_, _, _) => perform(rt, floor, pass),
+        match pass.stage() {
+            Stage::Idle | Stage::Ended => break,
+            Stage::Held(_, _) => open(rt, floor, pass),
+            Stage::Open(_, _, _) => perform(rt, floor, pass),
         }
     }
 }
@@ -100,9 +100,9 @@ fn a_new_floor_closes_too_early(rt: HostRuntime) -> Result<(), Fail> {
 // Whether the next unit is that of a number, which can be opened at once. It is performed then.
 fn performs<R: Wait>(rt: &R, floor: &Floor, pass: &mut Pass, number: u64) -> bool
     requires own { IsOf floor.now pass.old }
-    requires idle { pass.old.view.stage ≡ Hold.Idle }
+    requires idle { pass.old.view.stage ≡ Stage.Idle }
     ensures own { IsOf floor.now pass.new }
-    ensures idle { IsTrue result → pass.new.view.stage ≡ Hold.Idle }
+    ensures idle { IsTrue result → pass.new.view.stage ≡ Stage.Idle }
 {
     let Some(unit) = floor.claim(pass) else {
         return false;
@@ -111,7 +111,7 @@ fn performs<R: Wait>(rt: &R, floor: &Floor, pass: &mut Pass, number: u64) -> boo
         return false;
     };
     perform(rt, floor, pass);
-    if let Hold::Idle = pass.hold() {
+    if let Stage::Idle = pass.stage() {
         return unit.number == number;
     }
     false
@@ -122,8 +122,8 @@ fn performs<R: Wait>(rt: &R, floor: &Floor, pass: &mut Pass, number: u64) -> boo
 fn take_turns<R: Wait>(rt: &R, floor: &Floor, mut first: Pass, mut second: Pass) -> bool
     requires own { IsOf floor.now first }
     requires own_too { IsOf floor.now second }
-    requires idle { first.view.stage ≡ Hold.Idle }
-    requires idle_too { second.view.stage ≡ Hold.Idle }
+    requires idle { first.view.stage ≡ Stage.Idle }
+    requires idle_too { second.view.stage ≡ Stage.Idle }
 {
     let Some(slow) = floor.claim(&mut first) else {
         return false;

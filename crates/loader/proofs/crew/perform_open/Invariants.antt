@@ -1,7 +1,7 @@
 use Rattle.std.proofs.Common.{◌≡◌, ◌<◌, ◌≤◌}
+use Rattle.dta_model.specs.Machine.{left_of, open_end}
 use Rattle.phase_claims.specs.Crews.{HasSameRights}
 use Rattle.phase_claims.specs.Passes.{IsOf}
-use Rattle.phase_claims.specs.Views.{left_of, open_end}
 use Rattle.loader.proofs.crew.perform_open.Given as goal
 
 abbrev pub invariant-loop-number : goal.invariant-loop-number
