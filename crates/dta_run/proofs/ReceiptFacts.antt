@@ -2,7 +2,7 @@
 use Rattle.std.proofs.Common.{◌≡◌, ◌≢◌, ℕ, ◌≤◌, Bool, true, false, List, refl, sym, ap, subst, ◌∙◌, arith, inl, inr}
 use Rattle.std.specs.Prelude.{IfSome, Option, Some, not}
 use Rattle.desk_io.specs.declared.desk.Table.{Table}
-use Rattle.desk_io.specs.Desk.{Left, Taken}
+use Rattle.desk_io.specs.Desk.{Taken}
 use Rattle.dta_words.specs.Grammar.{settings_of}
 use Rattle.dta_words.specs.declared.command.Settings.{Settings}
 use Rattle.loader.specs.Gates.{GateState}
@@ -10,12 +10,13 @@ use Rattle.reports.specs.declared.refusal.Refusal.{Refusal}
 use Rattle.reports.specs.declared.refusal.Refusal.TheVariants as refusal
 use Rattle.dta_run.specs.Headline.{Headline}
 use Rattle.jobs.specs.Inputs.{Assigning, Auditing, FreeFlow, Kind, Skimming, Sweeping, kind_of}
-use Rattle.jobs.specs.Jobs.{IsAcceptedJob, JobRows, traffic_of}
+use Rattle.jobs.specs.Jobs.{IsJobOf, JobRows, traffic_of}
+use Rattle.jobs.specs.Reading.{Reading, reads_at}
 use Rattle.jobs.specs.Kinds.{IsFor}
 use Rattle.jobs.specs.declared.assign_job.AssignJob.{AssignJob}
 use Rattle.jobs.specs.declared.job.Job.{Job}
 use Rattle.jobs.specs.declared.job.Job.TheVariants as job-kind
-use Rattle.jobs.specs.Verdict.{Accepted, AreToldBy, Refused, Verdict, verdict, verdict_by}
+use Rattle.jobs.specs.Verdict.{Accepted, AreToldBy, Refused, Verdict, verdict}
 use Rattle.desk_io.specs.State.{DeskState}
 use Rattle.commands.specs.Works.{Works}
 use Rattle.assign_command.proofs.ReceiptFacts.{none-given}
@@ -25,7 +26,7 @@ use Rattle.dta_run.specs.Receipts.{JobGives, RunGives, ToldGives, takes_by, take
 use Rattle.commands.specs.Status.{refusal_status}
 use Rattle.commands.specs.declared.status.Status.{Status}
 use Rattle.commands.specs.declared.status.Status.TheVariants as status
-use Rattle.jobs.proofs.VerdictFacts.{all-told, verdict-job}
+use Rattle.jobs.proofs.VerdictFacts.{verdict-job}
 use Rattle.dta_run.proofs.AnswerFacts.{told}
 
 -- at most none is none
@@ -37,24 +38,24 @@ none-taken s job gate now is took =
     took.2 ∙ ap (λ (n : ℕ). taking_all n (numbers_in s (traffic_of job)) gate) none
 
 -- the receipts of the work are those of the run
-pub work-gives : (words : List (List ℕ)) (s : Settings) (job : JobRows) (answer : Status) (left rest : Left) (before after : Taken)
-    (gate now : GateState) → settings_of words ≡ Some s → IsAcceptedJob s job left rest → Works s job answer before after
-    → (answer ≡ status.Differs → kind_of s.command ≡ Auditing) → WorkGives s job answer gate now → RunGives words answer left rest gate now
-work-gives words s job status.Done left rest before after gate now told accepted works audits gives =
+pub work-gives : (words : List (List ℕ)) (s : Settings) (job : JobRows) (answer : Status) (from rest : DeskState) (before after : Taken)
+    (gate now : GateState) → settings_of words ≡ Some s → Reading s.command (IsJobOf s job) (reads_at from) (reads_at rest) → Works s job answer before after
+    → (answer ≡ status.Differs → kind_of s.command ≡ Auditing) → WorkGives s job answer gate now → RunGives words answer from rest gate now
+work-gives words s job status.Done from rest before after gate now told accepted works audits gives =
     record { settings = s; told = told; job = job; accepted = accepted; holds = gives }
-work-gives words s job status.WriteFault left rest before after gate now told accepted works audits gives =
+work-gives words s job status.WriteFault from rest before after gate now told accepted works audits gives =
     record { settings = s; told = told; job = job; accepted = accepted; holds = gives }
-work-gives words s job status.Memory left rest before after gate now told accepted works audits gives =
+work-gives words s job status.Memory from rest before after gate now told accepted works audits gives =
     inr (record { settings = s; told = told; job = job; accepted = accepted; holds = gives })
-work-gives words s job status.Differs left rest before after gate now told accepted works audits gives =
+work-gives words s job status.Differs from rest before after gate now told accepted works audits gives =
     none-taken s job gate now (audits refl) gives
-work-gives words s job answer left rest before after gate now told accepted works audits gives = absurd works
+work-gives words s job answer from rest before after gate now told accepted works audits gives = absurd works
 
 -- a refused run gives none
-pub refused-gives : (words : List (List ℕ)) (r : Refusal) (left rest : Left) (gate : GateState)
-    → RunGives words (refusal_status r) left rest gate gate
-refused-gives words refusal.Usage left rest gate = refl
-refused-gives words r left rest gate = refl
+pub refused-gives : (words : List (List ℕ)) (r : Refusal) (from rest : DeskState) (gate : GateState)
+    → RunGives words (refusal_status r) from rest gate gate
+refused-gives words refusal.Usage from rest gate = refl
+refused-gives words r from rest gate = refl
 
 -- ---- where the bytes of the tables are told
 
@@ -65,23 +66,21 @@ none-told (Accepted s job) status.Done gate now other same = absurd (other refl)
 none-told (Accepted s job) answer gate now other same = (0, omega arith, same)
 
 -- the verdict is on the job whose work gave the receipts
-worked-told : (words : List (List ℕ)) (texts : Table → List ℕ) (answer : Status) (left rest : Left) (gate now : GateState)
-    → JobGives words answer left rest gate now → AreToldBy (settings_of words) left texts
+worked-told : (words : List (List ℕ)) (texts : Table → List ℕ) (answer : Status) (from rest : DeskState) (gate now : GateState)
+    → JobGives words answer from rest gate now → AreToldBy (settings_of words) from.left texts
     → ToldGives (verdict words texts) answer gate now
-worked-told words texts answer left rest gate now h told =
+worked-told words texts answer from rest gate now h told =
     subst (λ (v : Verdict). ToldGives v answer gate now)
-    (sym (ap (λ (o : Option Settings). verdict_by o texts) h.told
-    ∙ verdict-job h.settings h.job texts left rest (all-told words h.settings left texts h.told told) h.accepted))
-    h.holds
+    (sym (verdict-job words h.settings texts (reads_at from) (reads_at rest) h.told told h.job h.accepted)) h.holds
 
-pub told_gives : (words : List (List ℕ)) (texts : Table → List ℕ) (answer : Status) (left rest : Left) (gate now : GateState)
-    → RunGives words answer left rest gate now → AreToldBy (settings_of words) left texts
+pub told_gives : (words : List (List ℕ)) (texts : Table → List ℕ) (answer : Status) (from rest : DeskState) (gate now : GateState)
+    → RunGives words answer from rest gate now → AreToldBy (settings_of words) from.left texts
     → ToldGives (verdict words texts) answer gate now
-told_gives words texts status.Done left rest gate now h told = worked-told words texts status.Done left rest gate now h told
-told_gives words texts status.WriteFault left rest gate now h told = worked-told words texts status.WriteFault left rest gate now h told
-told_gives words texts status.Memory left rest gate now (inl h) told = none-told (verdict words texts) status.Memory gate now (λ e. absurd cc) h
-told_gives words texts status.Memory left rest gate now (inr h) told = worked-told words texts status.Memory left rest gate now h told
-told_gives words texts answer left rest gate now h told = none-told (verdict words texts) answer gate now (λ e. absurd cc) h
+told_gives words texts status.Done from rest gate now h told = worked-told words texts status.Done from rest gate now h told
+told_gives words texts status.WriteFault from rest gate now h told = worked-told words texts status.WriteFault from rest gate now h told
+told_gives words texts status.Memory from rest gate now (inl h) told = none-told (verdict words texts) status.Memory gate now (λ e. absurd cc) h
+told_gives words texts status.Memory from rest gate now (inr h) told = worked-told words texts status.Memory from rest gate now h told
+told_gives words texts answer from rest gate now h told = none-told (verdict words texts) answer gate now (λ e. absurd cc) h
 
 pub ruleset answers = (told, told_gives)
 
@@ -104,9 +103,9 @@ still-alone : (words : List (List ℕ)) (s own : Settings) → settings_of words
 still-alone words s own told alone is =
     subst (λ (o : Option Settings). IfSome o (λ z. takes_workers z ≡ false)) (sym told ∙ is) alone
 
-worked-alone : (words : List (List ℕ)) (s : Settings) (answer : Status) (left rest : Left) (quiet still gate : GateState)
-    → settings_of words ≡ Some s → takes_workers s ≡ false → JobGives words answer left rest quiet still → JobGives words answer left rest gate gate
-worked-alone words s answer left rest quiet still gate told alone h = record {
+worked-alone : (words : List (List ℕ)) (s : Settings) (answer : Status) (from rest : DeskState) (quiet still gate : GateState)
+    → settings_of words ≡ Some s → takes_workers s ≡ false → JobGives words answer from rest quiet still → JobGives words answer from rest gate gate
+worked-alone words s answer from rest quiet still gate told alone h = record {
   settings = h.settings;
   told = h.told;
   job = h.job;
@@ -115,24 +114,24 @@ worked-alone words s answer left rest quiet still gate told alone h = record {
 }
 
 -- it gives none to any gate
-gives-none : (words : List (List ℕ)) (s : Settings) (answer : Status) (left rest : Left) (quiet still gate : GateState)
-    → settings_of words ≡ Some s → takes_workers s ≡ false → RunGives words answer left rest quiet still → RunGives words answer left rest gate gate
-gives-none words s status.Done left rest quiet still gate told alone h = worked-alone words s status.Done left rest quiet still gate told alone h
-gives-none words s status.WriteFault left rest quiet still gate told alone h = worked-alone words s status.WriteFault left rest quiet still gate told alone h
-gives-none words s status.Memory left rest quiet still gate told alone (inl h) = inl refl
-gives-none words s status.Memory left rest quiet still gate told alone (inr h) = inr (worked-alone words s status.Memory left rest quiet still gate told alone h)
-gives-none words s answer left rest quiet still gate told alone h = refl
+gives-none : (words : List (List ℕ)) (s : Settings) (answer : Status) (from rest : DeskState) (quiet still gate : GateState)
+    → settings_of words ≡ Some s → takes_workers s ≡ false → RunGives words answer from rest quiet still → RunGives words answer from rest gate gate
+gives-none words s status.Done from rest quiet still gate told alone h = worked-alone words s status.Done from rest quiet still gate told alone h
+gives-none words s status.WriteFault from rest quiet still gate told alone h = worked-alone words s status.WriteFault from rest quiet still gate told alone h
+gives-none words s status.Memory from rest quiet still gate told alone (inl h) = inl refl
+gives-none words s status.Memory from rest quiet still gate told alone (inr h) = inr (worked-alone words s status.Memory from rest quiet still gate told alone h)
+gives-none words s answer from rest quiet still gate told alone h = refl
 
 pub alone-headline : (words : List (List ℕ)) (s : Settings) (answer : Status) (before after : DeskState) (quiet still gate : GateState)
-    → settings_of words ≡ Some s → takes_workers s ≡ false → Means words answer before after → RunGives words answer before.left after.left quiet still
+    → settings_of words ≡ Some s → takes_workers s ≡ false → Means words answer before after → RunGives words answer before after quiet still
     → before.read_faults ≤ after.read_faults → before.put_faults ≤ after.put_faults → Headline words answer before after gate gate
 alone-headline words s answer before after quiet still gate is alone means given reads puts =
-    let gives = gives-none words s answer before.left after.left quiet still gate is alone given in
+    let gives = gives-none words s answer before after quiet still gate is alone given in
     record {
       means = means;
       told = λ texts t. told words texts answer before after means t;
       receipts = gives;
-      told_receipts = λ texts t. told_gives words texts answer before.left after.left gate gate gives t;
+      told_receipts = λ texts t. told_gives words texts answer before after gate gate gives t;
       reads = reads;
       puts = puts;
     }
@@ -153,7 +152,7 @@ starved words desk gate = record {
   means = inl (refl, refl);
   told = λ texts t. told words texts status.Memory desk desk (inl (refl, refl)) t;
   receipts = inl refl;
-  told_receipts = λ texts t. told_gives words texts status.Memory desk.left desk.left gate gate (inl refl) t;
+  told_receipts = λ texts t. told_gives words texts status.Memory desk desk gate gate (inl refl) t;
   reads = omega arith;
   puts = omega arith;
 }

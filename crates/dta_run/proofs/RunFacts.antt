@@ -10,9 +10,11 @@ use Rattle.reports.specs.declared.refusal.Refusal.TheVariants as refusal
 use Rattle.audit.specs.declared.verdict.Verdict.TheVariants as verdict
 use Rattle.dta_words.specs.Grammar.{settings_of}
 use Rattle.dta_words.specs.declared.command.Settings.{Settings}
-use Rattle.jobs.specs.Jobs.{IsAcceptedJob, JobRows}
+use Rattle.dta_words.specs.declared.command.Command.{Command}
+use Rattle.dta_words.specs.declared.command.Command.TheVariants as command
+use Rattle.jobs.specs.Jobs.{IsJobOf, JobRows}
 use Rattle.jobs.specs.Causes.{IsCause}
-use Rattle.jobs.specs.Stops.{HasFault}
+use Rattle.jobs.specs.Reading.{ReadState, Reading, reads_at}
 use Rattle.desk_io.specs.State.{DeskState}
 use Rattle.pending_text.specs.Outs.{IsCutOff, grown_by}
 use Rattle.commands.specs.Works.{IsDifferent, Works}
@@ -48,15 +50,15 @@ module _ (s : Settings) (job : JobRows) (before between after : DeskState) (good
       }
   works-put answer works failed differs = absurd works
 
-  pub works-means : (words : List (List ℕ)) (answer : Status) → settings_of words ≡ Some s → IsAcceptedJob s job before.left between.left → after.left ≡ between.left
+  pub works-means : (words : List (List ℕ)) (answer : Status) → settings_of words ≡ Some s → Reading s.command (IsJobOf s job) (reads_at before) (reads_at between) → reads_at between ≡ reads_at after
       → Works s job answer between.taken after.taken → (answer ≡ status.WriteFault → Rose between.put_faults after.put_faults)
       → (answer ≡ status.Differs → IsDifferent s job between after) → Means words answer before after
-  works-means words answer told accepted left works failed differs =
+  works-means words answer told accepted reads works failed differs =
       by answer (record {
         settings = s;
         told = told;
         job = job;
-        accepted = subst (λ l. IsAcceptedJob s job before.left l) (sym left) accepted;
+        accepted = subst (λ x. Reading s.command (IsJobOf s job) (reads_at before) x) reads accepted;
         holds = record { put = works-put answer works failed differs; loadings = loads-are-sound s job good };
       }) works
     where
@@ -67,26 +69,30 @@ module _ (s : Settings) (job : JobRows) (before between after : DeskState) (good
       by status.Differs worked works = worked
       by answer worked works = absurd works
 
+-- tables that are read never refuse the words
+never-usage : (s : Settings) (c : Command) (before after : ReadState) → Reading c (IsCause s refusal.Usage) before after → ⊥
+never-usage s (command.Demo n) before after h = h.2
+never-usage s c before after h = h
+
 -- the line of a refusal
 module _ (words : List (List ℕ)) (s : Settings) (before between after : DeskState) (told : settings_of words ≡ Some s) (taken : between.taken ≡ before.taken)
-    (puts : before.put_faults ≡ between.put_faults) (left : after.left ≡ between.left) (reads : between.read_faults ≡ after.read_faults) where
-  refused : (r : Refusal) → IsCause s r before.left between.left → ReportsLine r between after → IsRefused r words before after
+    (puts : before.put_faults ≡ between.put_faults) (reads : reads_at between ≡ reads_at after) where
+  refused : (r : Refusal) → Reading s.command (IsCause s r) (reads_at before) (reads_at between) → ReportsLine r between after → IsRefused r words before after
   refused r cause line = record {
     settings = s;
     told = told;
-    cause = subst (λ l. IsCause s r before.left l) (sym left) cause;
+    cause = subst (λ x. Reading s.command (IsCause s r) (reads_at before) x) reads cause;
     report = subst (λ f. IsOut output.Report (refusal_line r) before.taken after.taken f after.put_faults) (sym puts)
         (subst (λ t. IsOut output.Report (refusal_line r) t after.taken between.put_faults after.put_faults) taken line);
   }
 
-  pub refused-means : (r : Refusal) → IsCause s r before.left between.left → HasFault r before between → ReportsLine r between after
+  pub refused-means : (r : Refusal) → Reading s.command (IsCause s r) (reads_at before) (reads_at between) → ReportsLine r between after
       → Means words (refusal_status r) before after
-  refused-means refusal.Usage cause fault line = absurd cause.part
-  refused-means (refusal.Table f) cause fault line = (f, refused (refusal.Table f) cause line)
-  refused-means (refusal.Read t) cause fault line =
-      (t, refused (refusal.Read t) cause line, subst (λ n. Rose before.read_faults n) reads fault)
-  refused-means (refusal.LongTable t) cause fault line = inl (t, refused (refusal.LongTable t) cause line)
-  refused-means (refusal.Cells links steps) cause fault line = inr (inl (links, steps, refused (refusal.Cells links steps) cause line))
-  refused-means (refusal.Vehicles line-no total) cause fault line = inr (inr (inl (line-no, total, refused (refusal.Vehicles line-no total) cause line)))
-  refused-means (refusal.SkimPairs number) cause fault line = inr (inr (inr (inl (number, refused (refusal.SkimPairs number) cause line))))
-  refused-means (refusal.SweepCells links steps) cause fault line = inr (inr (inr (inr (links, steps, refused (refusal.SweepCells links steps) cause line))))
+  refused-means refusal.Usage cause line = absurd (never-usage s s.command (reads_at before) (reads_at between) cause)
+  refused-means (refusal.Table f) cause line = (f, refused (refusal.Table f) cause line)
+  refused-means (refusal.Read t) cause line = (t, refused (refusal.Read t) cause line)
+  refused-means (refusal.LongTable t) cause line = inl (t, refused (refusal.LongTable t) cause line)
+  refused-means (refusal.Cells links steps) cause line = inr (inl (links, steps, refused (refusal.Cells links steps) cause line))
+  refused-means (refusal.Vehicles line-no total) cause line = inr (inr (inl (line-no, total, refused (refusal.Vehicles line-no total) cause line)))
+  refused-means (refusal.SkimPairs number) cause line = inr (inr (inr (inl (number, refused (refusal.SkimPairs number) cause line))))
+  refused-means (refusal.SweepCells links steps) cause line = inr (inr (inr (inr (links, steps, refused (refusal.SweepCells links steps) cause line))))

@@ -30,7 +30,7 @@ pub record Headline (words : List (List ℕ)) (answer : Status) (before after : 
       → Answers (settings_of words) (verdict words texts) answer before after
   -- with Done the gate took one receipt for each iteration that was loaded by workers, where a put
   -- failed or memory was wanting at most as many, and otherwise none
-  pub receipts : RunGives words answer before.left after.left gate now
+  pub receipts : RunGives words answer before after gate now
   -- where the bytes are told, with the numbers of the verdict's job
   pub told_receipts : (texts : Table → List ℕ) → AreToldBy (settings_of words) before.left texts
       → ToldGives (verdict words texts) answer gate now

@@ -1,6 +1,5 @@
 -- What a run's answer says of its desk, from before the run to after it.
 use Rattle.std.specs.Prelude.{ℕ, ◌≡◌, ◌≤◌, ◌⊎◌, List, Contains, Option, None, Some}
-use Rattle.desk_io.specs.Desk.{Left}
 use Rattle.desk_io.specs.Faults.{Rose}
 use Rattle.desk_io.specs.declared.desk.Table.{Table}
 use Rattle.desk_io.specs.declared.desk.Output.TheVariants as output
@@ -17,9 +16,10 @@ use Rattle.dta_words.specs.Grammar.{settings_of}
 use Rattle.dta_words.specs.declared.command.Settings.{Settings}
 use Rattle.commands.specs.declared.status.Status.{Status}
 use Rattle.commands.specs.declared.status.Status.TheVariants as status
-use Rattle.jobs.specs.Inputs.{Auditing, kind_of, read_tables}
-use Rattle.jobs.specs.Jobs.{IsAcceptedJob, JobRows}
-use Rattle.jobs.specs.Causes.{EndsForMemory, IsCause, ReadsFailed}
+use Rattle.jobs.specs.Inputs.{Auditing, kind_of}
+use Rattle.jobs.specs.Reading.{Reading, read_tables, reads_at}
+use Rattle.jobs.specs.Jobs.{IsJobOf, JobRows}
+use Rattle.jobs.specs.Causes.{EndsForMemory, IsCause}
 use Rattle.jobs.specs.Verdict.{Accepted, Refused, Verdict}
 use Rattle.commands.specs.Status.{refusal_status}
 use Rattle.reference.specs.Audits.{verdict_of}
@@ -34,7 +34,7 @@ ReportsLine r before after =
 pub record IsRefused (r : Refusal) (words : List (List ℕ)) (before after : DeskState) : Type 0 where
   pub settings : Settings
   pub told : settings_of words ≡ Some settings
-  pub cause : IsCause settings r before.left after.left
+  pub cause : Reading settings.command (IsCause settings r) (reads_at before) (reads_at after)
   pub report : ReportsLine r before after
 
 -- the words aren't in the grammar; nothing was read, and the line of usage was put
@@ -45,12 +45,12 @@ pub record IsUsage (words : List (List ℕ)) (before after : DeskState) : Type 0
 
 -- the words are in the grammar, their tables were read to the end and accepted, and this holds of
 -- the job that they make
-pub record HasJob (words : List (List ℕ)) (before after : Left)
+pub record HasJob (words : List (List ℕ)) (before after : DeskState)
     (Holds : Settings → JobRows → Type 0) : Type 0 where
   pub settings : Settings
   pub told : settings_of words ≡ Some settings
   pub job : JobRows
-  pub accepted : IsAcceptedJob settings job before after
+  pub accepted : Reading settings.command (IsJobOf settings job) (reads_at before) (reads_at after)
   pub holds : Holds settings job
 
 -- memory was wanting in the work: of all outputs only Watch grew, by whole lines of the first
@@ -93,14 +93,15 @@ pub record IsWorked (s : Settings) (job : JobRows) (answer : Status) (before aft
 -- a run did its work over an accepted job
 abbrev pub HasWorked : List (List ℕ) → Status → DeskState → DeskState → Type 0
 HasWorked words answer before after =
-    HasJob words before.left after.left (λ s job. IsWorked s job answer before after)
+    HasJob words before after (λ s job. IsWorked s job answer before after)
 
 -- memory was wanting: for the words, before the work, or in it. No output was put but Watch
 abbrev pub IsStarved : List (List ℕ) → DeskState → DeskState → Type 0
 IsStarved words before after =
     ((after.left ≡ before.left) × (after.taken ≡ before.taken))
     ⊎ (((s : Settings) × (settings_of words ≡ Some s)
-    × EndsForMemory s before.left after.left × (after.taken ≡ before.taken))
+    × Reading s.command (EndsForMemory s) (reads_at before) (reads_at after)
+    × (after.taken ≡ before.taken))
     ⊎ HasWorked words status.Memory before after)
 
 -- what each status says
@@ -110,7 +111,7 @@ Means words status.Usage before after = IsUsage words before after
 Means words status.Table before after =
     (fault : TableFault) × IsRefused (refusal.Table fault) words before after
 Means words status.ReadFault before after =
-    (t : Table) × IsRefused (refusal.Read t) words before after × ReadsFailed before after
+    (t : Table) × IsRefused (refusal.Read t) words before after
 Means words status.Size before after =
     ((t : Table) × IsRefused (refusal.LongTable t) words before after)
     ⊎ (((links : ℕ) × (steps : ℕ) × IsRefused (refusal.Cells links steps) words before after)
@@ -130,7 +131,7 @@ IsReadBy (Some s) t = Contains (read_tables s.command s.start) t
 abbrev pub IsUnread : Option Settings → DeskState → DeskState → Type 0
 IsUnread settings before after =
     (t : Table) × IsReadBy settings t × ReportsLine (refusal.Read t) before after
-    × ReadsFailed before after
+    × Rose before.read_faults after.read_faults
 
 -- a fault of the outside, or want of memory
 abbrev pub IsHindered : Option Settings → Status → DeskState → DeskState → Type 0

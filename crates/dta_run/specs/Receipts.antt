@@ -1,6 +1,6 @@
 -- The receipts that a run gives its gate.
 use Rattle.std.specs.Prelude.{ℕ, ◌≡◌, ◌⊎◌, Bool, false, not, List}
-use Rattle.desk_io.specs.Desk.{Left}
+use Rattle.desk_io.specs.State.{DeskState}
 use Rattle.dta_words.specs.declared.command.Settings.{Settings}
 use Rattle.loader.specs.Gates.{GateState}
 use Rattle.jobs.specs.Inputs.{Assigning, Auditing, FreeFlow, Kind, Skimming, Sweeping, kind_of}
@@ -23,13 +23,15 @@ abbrev pub takes_workers : Settings → Bool
 takes_workers s = takes_by (kind_of s.command) s.plain
 
 -- the words have an accepted job, whose work ended with this status and gave the gate its receipts
-abbrev pub JobGives : List (List ℕ) → Status → Left → Left → GateState → GateState → Type 0
+abbrev pub JobGives :
+    List (List ℕ) → Status → DeskState → DeskState → GateState → GateState → Type 0
 JobGives words answer before after gate now =
     HasJob words before after (λ s job. WorkGives s job answer gate now)
 
 -- the receipts of a run by its status: where all is done one for each iteration that is loaded by
 -- workers, where a put failed or memory was wanting at most as many, and none where it was refused
-abbrev pub RunGives : List (List ℕ) → Status → Left → Left → GateState → GateState → Type 0
+abbrev pub RunGives :
+    List (List ℕ) → Status → DeskState → DeskState → GateState → GateState → Type 0
 RunGives words status.Done before after gate now =
     JobGives words status.Done before after gate now
 RunGives words status.WriteFault before after gate now =

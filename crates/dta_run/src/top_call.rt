@@ -60,7 +60,7 @@ fn run_settings<R: AllocGlobal + Threads + Wait + Sync, D: Desk + Send, G: Gate 
         → Means words result (D.state desk.old) (D.state desk.new) }
     ensures receipts { let shown = gate_of G.closes G.last in
         (words : List (List ℕ)) → settings_of words ≡ Some settings.now
-        → RunGives words result (D.state desk.old).left (D.state desk.new).left
+        → RunGives words result (D.state desk.old) (D.state desk.new)
         (shown gate.old) (shown gate.new) }
     ensures reads { (D.state desk.old).read_faults ≤ (D.state desk.new).read_faults }
     ensures puts { (D.state desk.old).put_faults ≤ (D.state desk.new).put_faults }
@@ -91,7 +91,7 @@ fn answer<R: AllocGlobal + Threads + Wait + Sync, D: Desk + Send, G: Gate + Sync
 ) -> Status
     ensures means { Means words.now result (D.state desk.old) (D.state desk.new) }
     ensures receipts { let shown = gate_of G.closes G.last in
-        RunGives words.now result (D.state desk.old).left (D.state desk.new).left
+        RunGives words.now result (D.state desk.old) (D.state desk.new)
         (shown gate.old) (shown gate.new) }
     ensures reads { (D.state desk.old).read_faults ≤ (D.state desk.new).read_faults }
     ensures puts { (D.state desk.old).put_faults ≤ (D.state desk.new).put_faults }

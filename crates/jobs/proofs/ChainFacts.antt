@@ -10,6 +10,7 @@ use Rattle.reports.specs.declared.refusal.Refusal.TheVariants as refusal
 use Rattle.jobs.specs.Calls.{OnlyReads}
 use Rattle.desk_io.specs.State.{DeskState}
 use Rattle.jobs.specs.TableRows.{TableRows, all_tables, loading_tables, no_rows}
+use Rattle.jobs.specs.Reading.{ReadState, reads_at}
 use Rattle.jobs.specs.Stops.{StopsAmong, StopsAt}
 use Rattle.jobs.specs.Tables.{AreAccepted, IsAccepted, ReachedAmong}
 use Rattle.jobs.specs.declared.stop.Stop.{Stop}
@@ -20,10 +21,10 @@ pub rose-earlier : (before between now : ℕ) → before ≤ between → Rose be
 rose-earlier before between now h r = omega (arith, h, r)
 
 -- a stop, seen from before an earlier call on the desk
-abbrev since : DeskState → DeskState → DeskState
+abbrev since : ReadState → ReadState → ReadState
 since earlier before = record earlier { left = before.left }
 
-stop-since : (settings : Settings) (t : Table) (rows : TableRows) (s : Stop) (earlier before after : DeskState) → earlier.read_faults ≤ before.read_faults
+stop-since : (settings : Settings) (t : Table) (rows : TableRows) (s : Stop) (earlier before after : ReadState) → earlier.read_faults ≤ before.read_faults
     → StopsAt settings t rows s before after → StopsAt settings t rows s (since earlier before) after
 stop-since settings t rows Memory earlier before after h stops = stops
 stop-since settings t rows (Refused refusal.Usage) earlier before after h stops = stops
@@ -61,17 +62,17 @@ module _ (settings : Settings) where
         inr (a.0, a.1, a.2, reached-then tables others a.0 next a.1 between rest a.3 h)
 
   -- the reading stopped at the first of these tables
-  pub among-now : (t : Table) (others : List Table) (rows : TableRows) (s : Stop) (before after : DeskState) → StopsAt settings t rows s before after
+  pub among-now : (t : Table) (others : List Table) (rows : TableRows) (s : Stop) (before after : ReadState) → StopsAt settings t rows s before after
       → StopsAmong settings (t ∷ others) rows s before after
   among-now t others rows s before after h = (t, inl (refl, h))
 
   -- or at one of the first
-  pub among-first : (tables others : List Table) (rows : TableRows) (s : Stop) (before after : DeskState) → StopsAmong settings tables rows s before after
+  pub among-first : (tables others : List Table) (rows : TableRows) (s : Stop) (before after : ReadState) → StopsAmong settings tables rows s before after
       → StopsAmong settings (tables ++ others) rows s before after
   among-first tables others rows s before after h = (h.0, reached-first h.0 _ tables others rows before.left after.left h.1)
 
   -- or at the table after those that were accepted
-  pub among-then : (tables others : List Table) (t : Table) (rows next : TableRows) (s : Stop) (before between after : DeskState)
+  pub among-then : (tables others : List Table) (t : Table) (rows next : TableRows) (s : Stop) (before between after : ReadState)
       → AreAccepted settings tables rows next before.left between.left → before.read_faults ≤ between.read_faults
       → StopsAt settings t next s between after → StopsAmong settings (tables ++ t ∷ others) rows s before after
   among-then tables others t rows next s before between after a h stops =
@@ -85,7 +86,7 @@ module _ (settings : Settings) where
       (accepted-both all_tables (table.Start ∷ []) no_rows rows more left between rest others (accepted-one table.Start rows more between rest own))
 
   -- the reading stopped there
-  pub among-start : (start : Bool) (rows : TableRows) (s : Stop) (before between after : DeskState) → start ≡ true
+  pub among-start : (start : Bool) (rows : TableRows) (s : Stop) (before between after : ReadState) → start ≡ true
       → AreAccepted settings all_tables no_rows rows before.left between.left → before.read_faults ≤ between.read_faults
       → StopsAt settings table.Start rows s between after → StopsAmong settings (loading_tables start) no_rows s before after
   among-start start rows s before between after asks others h stops =
@@ -101,20 +102,20 @@ module _ (settings : Settings) where
 -- ---- calls that only read
 
 -- a call that does what another did to a desk, and says something else of it
-module _ {T U : Type 0} {Done : T → Left → Left → Type 0} {Done' : U → Left → Left → Type 0} {Stopped Stopped' : Stop → DeskState → DeskState → Type 0}
+module _ {T U : Type 0} {Done : T → ReadState → ReadState → Type 0} {Done' : U → ReadState → ReadState → Type 0} {Stopped Stopped' : Stop → ReadState → ReadState → Type 0}
     {before after : DeskState} {x : Result T Stop} where
   pub reads-so : {y : Result U Stop} → OnlyReads Done Stopped before after x
-      → IfOk y (λ v. Done' v before.left after.left) → IfErr y (λ stop. Stopped' stop before after) → OnlyReads Done' Stopped' before after y
+      → IfOk y (λ v. Done' v (reads_at before) (reads_at after)) → IfErr y (λ stop. Stopped' stop (reads_at before) (reads_at after)) → OnlyReads Done' Stopped' before after y
   reads-so r done stops = record { done = done; stops = stops; later = r.later; taken = r.taken; puts = r.puts }
 
-  pub reads-done : {v : U} → OnlyReads Done Stopped before after x → Done' v before.left after.left → OnlyReads Done' Stopped' before after (Ok v)
+  pub reads-done : {v : U} → OnlyReads Done Stopped before after x → Done' v (reads_at before) (reads_at after) → OnlyReads Done' Stopped' before after (Ok v)
   reads-done r done = record { done = done; stops = tt; later = r.later; taken = r.taken; puts = r.puts }
 
-  pub reads-stopped : {stop : Stop} → OnlyReads Done Stopped before after x → Stopped' stop before after → OnlyReads Done' Stopped' before after (Err stop)
+  pub reads-stopped : {stop : Stop} → OnlyReads Done Stopped before after x → Stopped' stop (reads_at before) (reads_at after) → OnlyReads Done' Stopped' before after (Err stop)
   reads-stopped r stops = record { done = tt; stops = stops; later = r.later; taken = r.taken; puts = r.puts }
 
 -- what a call did to a desk and then another
-pub reads-both : {T U : Type 0} {Done : T → Left → Left → Type 0} {Done' : U → Left → Left → Type 0} {Stopped Stopped' : Stop → DeskState → DeskState → Type 0}
+pub reads-both : {T U : Type 0} {Done : T → ReadState → ReadState → Type 0} {Done' : U → ReadState → ReadState → Type 0} {Stopped Stopped' : Stop → ReadState → ReadState → Type 0}
     {before between after : DeskState} {x : Result T Stop} {y : Result U Stop}
     → OnlyReads Done Stopped before between x → OnlyReads Done' Stopped' between after y
     → OnlyReads {T = ⊤} (λ v left rest. ⊤) (λ stop before after. ⊤) before after (Ok tt)

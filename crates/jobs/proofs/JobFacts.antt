@@ -6,8 +6,6 @@ use Rattle.std.proofs.lemmas.List.Elements.{All-nil}
 use Rattle.std.proofs.lemmas.Result.{IfErr-weaker, IfOk-weaker}
 use Rattle.desk_io.specs.declared.desk.Table.{Table}
 use Rattle.desk_io.specs.Desk.{Left}
-use Rattle.desk_io.specs.Faults.{Rose}
-use Rattle.desk_io.specs.MemDesk.{all_left}
 use Rattle.desk_io.specs.Transfers.{IsBegun, IsLong}
 use Rattle.net_core.specs.Network.{IsNet}
 use Rattle.net_core.specs.declared.rows.LinkRow.{LinkRow}
@@ -21,7 +19,6 @@ use Rattle.gmns_tables.specs.declared.with_windows.WithWindows.{WithWindows}
 use Rattle.dta_model.specs.Release.{in_order_of_departure, released, trips_of}
 use Rattle.dta_model.specs.declared.trip.DemandCell.{DemandCell}
 use Rattle.dta_model.specs.declared.trip.Trip.{Trip}
-use Rattle.grid_maker.specs.Grid.{node_text, link_text, demand_text}
 use Rattle.reports.specs.declared.refusal.Refusal.{Refusal}
 use Rattle.reports.specs.declared.refusal.Refusal.TheVariants as refusal
 use Rattle.desk_io.specs.declared.transfers.TheConstants.{MOST_TABLE_BYTES}
@@ -32,17 +29,18 @@ use Rattle.assignment.specs.Traffic.{AreTripsBelow, IsTraffic}
 use Rattle.jobs.specs.Calls.{OnlyReads}
 use Rattle.jobs.specs.TableRows.{TableRows, net_of, no_rows, road_rows}
 use Rattle.jobs.specs.Limits.{HasSweepRoom, Limits, sweep_limits}
-use Rattle.jobs.specs.Inputs.{Assigning, Assigns, Auditing, FreeFlow, Inputs, Kind, Skimming, Sweeping, TableSource, TakesTimes, assignment_inputs, at_desk, inputs_by, inputs_of, kind_of, limits_of, read_tables, source_of, tables_of}
-use Rattle.jobs.specs.Jobs.{IsAcceptedJob, IsJob, IsJobOf, JobRows, Reading, job_of}
-use Rattle.jobs.specs.Causes.{AreCounted, IsCauseAmong, IsCauseIn, IsCutIn, IsPast, ReadsFailed}
-use Rattle.jobs.specs.Stops.{HasFault, Stops, StopsAmong, StopsAt, StopsIn, StopsPast, stop_at_scale}
+use Rattle.jobs.specs.Inputs.{Assigning, Assigns, Auditing, FreeFlow, Inputs, Kind, Skimming, Sweeping, TakesTimes, assignment_inputs, inputs_by, inputs_of, kind_of, limits_of, tables_of}
+use Rattle.jobs.specs.Reading.{ReadState, Reading, grid_left, reads_at}
+use Rattle.jobs.specs.Jobs.{IsJob, IsJobOf, JobRows, job_of}
+use Rattle.jobs.specs.Causes.{AreCounted, IsPast, ReadsFailed}
+use Rattle.jobs.specs.Stops.{Stops, StopsAmong, StopsAt, StopsPast, stop_at_scale}
 use Rattle.jobs.specs.Tables.{AreAccepted, IsFaulty, ReachedAmong}
 use Rattle.desk_io.specs.State.{DeskState}
 use Rattle.scaled_demand.specs.Scales.{IsFirstTooMany}
 use Rattle.scaled_demand.specs.declared.fault.SweepFault.{SweepFault}
 use Rattle.scaled_demand.specs.declared.fault.SweepFault.TheVariants as sweep
 use Rattle.desk_io.proofs.DeskFacts.{before_left-empty}
-use Rattle.jobs.proofs.ChainFacts.{reached-then, reads-so}
+use Rattle.jobs.proofs.ChainFacts.{reached-then}
 use Rattle.jobs.specs.declared.stop.Stop.{Stop}
 use Rattle.jobs.specs.declared.stop.Stop.TheVariants.{Refused, Memory}
 
@@ -107,18 +105,18 @@ pub assigned-unswept : (c : Command) → Assigns c → (cells : List DemandCell)
 assigned-unswept c assigns cells = ap (λ (i : Inputs). i.swept cells) (assigned-inputs c assigns)
 
 -- the table at which reading stopped, as the cause of the stop
-module _ (s : Settings) (before after : DeskState) where
+module _ (s : Settings) (before after : ReadState) where
   abbrev Ends : Table → Stop → TableRows → Left → Left → Type 0
   Ends t stop rows left rest = StopsAt s t rows stop (record before { left = left }) (record after { left = rest })
 
-  pub among-in : (stop : Stop) → StopsAmong s (tables_of s.command s.start) no_rows stop before after → StopsIn s stop before after
+  pub among-in : (stop : Stop) → StopsAmong s (tables_of s.command s.start) no_rows stop before after → Stops s stop before after
   among-in Memory h = inr (inl h)
   among-in (Refused refusal.Usage) h =
       absurd (reached-holds s h.0 (Ends h.0 (Refused refusal.Usage)) ⊥ (tables_of s.command s.start) no_rows before.left after.left (λ r a b k. k) h.1)
   among-in (Refused (refusal.Table fault)) h =
       let same : fault.table ≡ h.0 = reached-holds s h.0 (Ends h.0 (Refused (refusal.Table fault))) (fault.table ≡ h.0) (tables_of s.command s.start) no_rows before.left after.left (λ r a b k. k.0) h.1 in
       let faulty = reached-map s h.0 (Ends h.0 (Refused (refusal.Table fault))) (IsFaulty s fault h.0) (tables_of s.command s.start) no_rows before.left after.left (λ r a b k. k.1) h.1 in
-      (subst (λ (t : Table). ReachedAmong s (tables_of s.command s.start) t (IsFaulty s fault t) no_rows before.left after.left) (sym same) faulty, tt)
+      subst (λ (t : Table). ReachedAmong s (tables_of s.command s.start) t (IsFaulty s fault t) no_rows before.left after.left) (sym same) faulty
   among-in (Refused (refusal.Read u)) h =
       let same : u ≡ h.0 = reached-holds s h.0 (Ends h.0 (Refused (refusal.Read u))) (u ≡ h.0) (tables_of s.command s.start) no_rows before.left after.left (λ r a b k. k.0) h.1 in
       let failed : ReadsFailed before after = reached-holds s h.0 (Ends h.0 (Refused (refusal.Read u))) (ReadsFailed before after) (tables_of s.command s.start) no_rows before.left after.left (λ r a b k. k.2) h.1 in
@@ -127,7 +125,7 @@ module _ (s : Settings) (before after : DeskState) where
   among-in (Refused (refusal.LongTable u)) h =
       let same : u ≡ h.0 = reached-holds s h.0 (Ends h.0 (Refused (refusal.LongTable u))) (u ≡ h.0) (tables_of s.command s.start) no_rows before.left after.left (λ r a b k. k.0) h.1 in
       let long = reached-map s h.0 (Ends h.0 (Refused (refusal.LongTable u))) (λ _. IsLong h.0 MOST_TABLE_BYTES) (tables_of s.command s.start) no_rows before.left after.left (λ r a b k. k.1) h.1 in
-      (subst (λ (t : Table). ReachedAmong s (tables_of s.command s.start) t (λ _. IsLong t MOST_TABLE_BYTES) no_rows before.left after.left) (sym same) long, tt)
+      subst (λ (t : Table). ReachedAmong s (tables_of s.command s.start) t (λ _. IsLong t MOST_TABLE_BYTES) no_rows before.left after.left) (sym same) long
   among-in (Refused (refusal.Cells links steps)) h =
       absurd (reached-holds s h.0 (Ends h.0 (Refused (refusal.Cells links steps))) ⊥ (tables_of s.command s.start) no_rows before.left after.left (λ r a b k. k) h.1)
   among-in (Refused (refusal.Vehicles line total)) h =
@@ -139,106 +137,44 @@ module _ (s : Settings) (before after : DeskState) where
 
   -- a limit that the rows of accepted tables are past, as the cause of the stop
   past-counted : (limits : Limits) → limits_of s.command ≡ limits → (rows : TableRows) (r : Refusal)
-      → AreAccepted s (tables_of s.command s.start) no_rows rows before.left after.left → limits.past s rows r → IsPast s r before.left after.left
+      → AreAccepted s (tables_of s.command s.start) no_rows rows before.left after.left → limits.past s rows r → IsPast s r before after
   past-counted limits are rows r read h = record { rows = rows; read = read; part = subst (λ (l : Limits). l.past s rows r) (sym are) h }
 
   pub past-in : (limits : Limits) → limits_of s.command ≡ limits → (rows : TableRows) (stop : Stop)
-      → AreAccepted s (tables_of s.command s.start) no_rows rows before.left after.left → StopsPast limits s rows stop → StopsIn s stop before after
+      → AreAccepted s (tables_of s.command s.start) no_rows rows before.left after.left → StopsPast limits s rows stop → Stops s stop before after
   past-in limits are rows Memory read h = inr (inr (record { rows = rows; read = read; part = tt }))
   past-in limits are rows (Refused refusal.Usage) read h = absurd h
   past-in limits are rows (Refused (refusal.Table fault)) read h = absurd h
   past-in limits are rows (Refused (refusal.Read u)) read h = absurd h
   past-in limits are rows (Refused (refusal.LongTable u)) read h = absurd h
-  past-in limits are rows (Refused (refusal.Cells links steps)) read h = (past-counted limits are rows (refusal.Cells links steps) read h, tt)
-  past-in limits are rows (Refused (refusal.Vehicles line total)) read h = (past-counted limits are rows (refusal.Vehicles line total) read h, tt)
-  past-in limits are rows (Refused (refusal.SkimPairs number)) read h = (past-counted limits are rows (refusal.SkimPairs number) read h, tt)
-  past-in limits are rows (Refused (refusal.SweepCells links steps)) read h = (past-counted limits are rows (refusal.SweepCells links steps) read h, tt)
+  past-in limits are rows (Refused (refusal.Cells links steps)) read h = past-counted limits are rows (refusal.Cells links steps) read h
+  past-in limits are rows (Refused (refusal.Vehicles line total)) read h = past-counted limits are rows (refusal.Vehicles line total) read h
+  past-in limits are rows (Refused (refusal.SkimPairs number)) read h = past-counted limits are rows (refusal.SkimPairs number) read h
+  past-in limits are rows (Refused (refusal.SweepCells links steps)) read h = past-counted limits are rows (refusal.SweepCells links steps) read h
 
--- the same at a desk that is the source itself
-pub own-stops : (s : Settings) (stop : Stop) (before after : DeskState)
-    → read_tables s.command s.start ≡ tables_of s.command s.start → (source_of s.command).left before.left ≡ before.left
-    → (source_of s.command).leaves after.left before.left after.left → StopsIn s stop before after → Stops s stop before after
-own-stops s Memory before after all from leaves h = record { rest = after.left; leaves = leaves; part = subst (λ l. IsCutIn s l after.left) (sym from) h }
-own-stops s (Refused r) before after all from leaves h =
-    let own : IsCauseIn s r before.left after.left =
-    subst (λ (tables : List Table). IsCauseAmong tables s r before.left after.left) (sym all) h.0 in
-    (record { rest = after.left; leaves = leaves; part = subst (λ l. IsCauseIn s r l after.left) (sym from) own }, h.1)
+-- what was read of a grid's tables, as the reading of its command
+module _ (s : Settings) (n : ℕ) (asks : s.command ≡ command.Demo n) (desk : DeskState) where
+  pub grid-reading : (Part : ReadState → ReadState → Type 0) (rest : Left) → Part (record { left = grid_left n; read_faults = 0 }) (record { left = rest; read_faults = 0 })
+      → Reading s.command Part (reads_at desk) (reads_at desk)
+  grid-reading Part rest part = subst (λ (c : Command). Reading c Part (reads_at desk) (reads_at desk)) (sym asks) (refl, rest, part)
 
--- a command that reads its tables of the desk
-abbrev pub IsAtDesk : Command → Type 1
-IsAtDesk c = source_of c ≡ at_desk
-
--- what such a source has, from where, and what it leaves
-abbrev ReadsDesk : TableSource → Type 0
-ReadsDesk source = ((tables : List Table) → source.read tables ≡ tables) × ((left : Left) → source.left left ≡ left) × ((rest before : Left) → source.leaves rest before rest)
-
-reads-desk : (c : Command) → IsAtDesk c → ReadsDesk (source_of c)
-reads-desk c is = subst ReadsDesk (sym is) (λ tables. refl, λ left. refl, λ rest before. refl)
-
--- the desk is then the source itself
-pub read-at-desk : {T : Type 0} (s : Settings) (rows_in : T → JobRows) (r : Result T Stop) (before after : DeskState) → IsAtDesk s.command
-    → OnlyReads (λ job. IsJobOf s (rows_in job)) (StopsIn s) before after r → OnlyReads (λ job. IsAcceptedJob s (rows_in job)) (Stops s) before after r
-read-at-desk s rows_in r before after is h =
-    let reads = reads-desk s.command is in
-    reads-so h
-    (IfOk-weaker r (λ job. IsJobOf s (rows_in job) before.left after.left) (λ job. IsAcceptedJob s (rows_in job) before.left after.left)
-    (λ job k. record { rest = after.left; leaves = reads.2 after.left before.left; part = subst (λ l. IsJobOf s (rows_in job) l after.left) (sym (reads.1 before.left)) k }) h.done)
-    (IfErr-weaker r (λ stop. StopsIn s stop before after) (λ stop. Stops s stop before after)
-    (λ stop k. own-stops s stop before after (reads.0 (tables_of s.command s.start)) (reads.1 before.left) (reads.2 after.left before.left) k) h.stops)
-
-never-rose : Rose 0 0 → ⊥
-never-rose r = omega (arith, r)
-
-no-fault : (r : Refusal) (made later before after : DeskState) → made.read_faults ≡ 0 → later.read_faults ≡ 0 → HasFault r made later → HasFault r before after
-no-fault refusal.Usage made later before after m l h = tt
-no-fault (refusal.Table fault) made later before after m l h = tt
-no-fault (refusal.Read u) made later before after m l h = absurd (never-rose (subst (λ x. Rose x 0) m (subst (λ x. Rose made.read_faults x) l h)))
-no-fault (refusal.LongTable u) made later before after m l h = tt
-no-fault (refusal.Cells links steps) made later before after m l h = tt
-no-fault (refusal.Vehicles line total) made later before after m l h = tt
-no-fault (refusal.SkimPairs number) made later before after m l h = tt
-no-fault (refusal.SweepCells links steps) made later before after m l h = tt
-
--- where no read failed, it is no matter of which tables reads could fail
-any-tables : (s : Settings) (r : Refusal) (tables others : List Table) (before after : Left)
-    (made later : DeskState) → made.read_faults ≡ 0 → later.read_faults ≡ 0 → HasFault r made later
-    → IsCauseAmong tables s r before after → IsCauseAmong others s r before after
-any-tables s refusal.Usage tables others before after made later m l f h = h
-any-tables s (refusal.Table fault) tables others before after made later m l f h = h
-any-tables s (refusal.Read u) tables others before after made later m l f h =
-    absurd (never-rose (subst (λ x. Rose x 0) m (subst (λ x. Rose made.read_faults x) l f)))
-any-tables s (refusal.LongTable u) tables others before after made later m l f h = h
-any-tables s (refusal.Cells links steps) tables others before after made later m l f h = h
-any-tables s (refusal.Vehicles line total) tables others before after made later m l f h = h
-any-tables s (refusal.SkimPairs number) tables others before after made later m l f h = h
-any-tables s (refusal.SweepCells links steps) tables others before after made later m l f h = h
-
--- and at a desk that was made for the source
-module _ (s : Settings) (n : ℕ) (asks : s.command ≡ command.Demo n) where
-  abbrev grid_left : Left
-  grid_left = all_left (node_text n) (link_text n) [] (demand_text n)
-
-  grid-source : (left : Left) → (source_of s.command).left left ≡ grid_left
-  grid-source left = ap (λ (c : Command). (source_of c).left left) asks
-
-  grid-leaves : (rest before after : Left) → after ≡ before → (source_of s.command).leaves rest before after
-  grid-leaves rest before after same = subst (λ (c : Command). (source_of c).leaves rest before after) (sym asks) same
-
-  pub grid-reading : (Part : Left → Left → Type 0) (rest before after : Left) → after ≡ before → Part grid_left rest → Reading s.command Part before after
-  grid-reading Part rest before after same part = record {
-    rest = rest;
-    leaves = grid-leaves rest before after same;
-    part = subst (λ l. Part l rest) (sym (grid-source before)) part;
-  }
-
-  pub grid-stops : (stop : Stop) (made later before after : DeskState) → made.left ≡ grid_left → made.read_faults ≡ 0 → later.read_faults ≡ 0
-      → after.left ≡ before.left → StopsIn s stop made later → Stops s stop before after
-  grid-stops Memory made later before after from m l same h =
-      grid-reading (IsCutIn s) later.left before.left after.left same (subst (λ x. IsCutIn s x later.left) from h)
-  grid-stops (Refused r) made later before after from m l same h =
-      let made_for = subst (λ x. IsCauseAmong (tables_of s.command s.start) s r x later.left) from h.0 in
-      let own = any-tables s r (tables_of s.command s.start) (read_tables s.command s.start) grid_left later.left made later m l h.1 made_for in
-      (grid-reading (IsCauseIn s r) later.left before.left after.left same own, no-fault r made later before after m l h.1)
+  pub grid-reads : {T : Type 0} (rows_in : T → JobRows) (r : Result T Stop) (made later : DeskState) → made.left ≡ grid_left n → made.read_faults ≡ 0 → later.read_faults ≡ 0
+      → OnlyReads (λ job. IsJobOf s (rows_in job)) (Stops s) made later r
+      → OnlyReads (λ job. Reading s.command (IsJobOf s (rows_in job))) (λ stop. Reading s.command (Stops s stop)) desk desk r
+  grid-reads rows_in r made later from m l h =
+      let start : reads_at made ≡ record { left = grid_left n; read_faults = 0 } = rw (from, m) refl in
+      let end : reads_at later ≡ record { left = later.left; read_faults = 0 } = rw l refl in
+      let read : (Part : ReadState → ReadState → Type 0) → Part (reads_at made) (reads_at later) → Reading s.command Part (reads_at desk) (reads_at desk) =
+      λ Part part. grid-reading Part later.left (subst (λ x. Part x (record { left = later.left; read_faults = 0 })) start (subst (λ x. Part (reads_at made) x) end part)) in
+      record {
+        done = IfOk-weaker r (λ job. IsJobOf s (rows_in job) (reads_at made) (reads_at later)) (λ job. Reading s.command (IsJobOf s (rows_in job)) (reads_at desk) (reads_at desk))
+            (λ job k. read (IsJobOf s (rows_in job)) k) h.done;
+        stops = IfErr-weaker r (λ stop. Stops s stop (reads_at made) (reads_at later)) (λ stop. Reading s.command (Stops s stop) (reads_at desk) (reads_at desk))
+            (λ stop k. read (Stops s stop) k) h.stops;
+        later = search rules;
+        taken = refl;
+        puts = refl;
+      }
 
 -- ---- jobs
 
@@ -260,39 +196,43 @@ module _ (s : Settings) {tables : List Table} {limits : Limits} (has : HasInputs
   read-own rows left rest read = subst (λ (ts : List Table). AreAccepted s ts no_rows rows left rest) (sym has.same) read
 
   -- the job of the rows
-  pub own-job : (rows : TableRows) (job : JobRows) (left rest : Left) → AreAccepted s tables no_rows rows left rest
-      → limits.within s rows → job ≡ job_of s rows → IsJobOf s job left rest
-  own-job rows job left rest read within makes = record {
+  pub own-job : (rows : TableRows) (job : JobRows) (before after : ReadState) → AreAccepted s tables no_rows rows before.left after.left
+      → limits.within s rows → job ≡ job_of s rows → IsJobOf s job before after
+  own-job rows job before after read within makes = record {
     rows = rows;
-    read = read-own rows left rest read;
+    read = read-own rows before.left after.left read;
     within = subst (λ (l : Limits). l.within s rows) (sym has.under) within;
     makes = makes;
   }
 
-  pub own-jobs : {T E : Type 0} (rows_in : T → JobRows) (rows : TableRows) (r : Result T E) (left rest : Left) → AreAccepted s tables no_rows rows left rest
-      → OnOk r (limits.within s rows) → IfOk r (λ job. rows_in job ≡ job_of s rows) → IfOk r (λ job. IsJobOf s (rows_in job) left rest)
-  own-jobs rows_in rows r left rest read within makes =
-      full-made r (λ job. rows_in job ≡ job_of s rows) (λ job. IsJobOf s (rows_in job) left rest) (limits.within s rows)
-      (λ job w m. own-job rows (rows_in job) left rest read w m) within makes
+  pub own-jobs : {T E : Type 0} (rows_in : T → JobRows) (rows : TableRows) (r : Result T E) (before after : ReadState) → AreAccepted s tables no_rows rows before.left after.left
+      → OnOk r (limits.within s rows) → IfOk r (λ job. rows_in job ≡ job_of s rows) → IfOk r (λ job. IsJobOf s (rows_in job) before after)
+  own-jobs rows_in rows r before after read within makes =
+      full-made r (λ job. rows_in job ≡ job_of s rows) (λ job. IsJobOf s (rows_in job) before after) (limits.within s rows)
+      (λ job w m. own-job rows (rows_in job) before after read w m) within makes
 
-  pub counted : (rows : TableRows) (left rest : Left) → AreAccepted s tables no_rows rows left rest → AreCounted s (λ rows. ⊤) left rest
-  counted rows left rest read = record { rows = rows; read = read-own rows left rest read; part = tt }
+  pub counted : (rows : TableRows) (before after : ReadState) → AreAccepted s tables no_rows rows before.left after.left → AreCounted s (λ rows. ⊤) before after
+  counted rows before after read = record { rows = rows; read = read-own rows before.left after.left read; part = tt }
 
   -- what stopped the reading of the tables, or was over their rows
   module _ (before after : DeskState) where
-    pub among : (stop : Stop) → StopsAmong s tables no_rows stop before after → StopsIn s stop before after
-    among stop h = among-in s before after stop (subst (λ (ts : List Table). StopsAmong s ts no_rows stop before after) (sym has.same) h)
+    abbrev EndsIn : Stop → Type 0
+    EndsIn stop = Stops s stop (reads_at before) (reads_at after)
 
-    pub past : (rows : TableRows) (stop : Stop) → AreAccepted s tables no_rows rows before.left after.left → StopsPast limits s rows stop → StopsIn s stop before after
-    past rows stop read h = past-in s before after limits has.under rows stop (read-own rows before.left after.left read) h
+    pub among : (stop : Stop) → StopsAmong s tables no_rows stop (reads_at before) (reads_at after) → EndsIn stop
+    among stop h =
+        among-in s (reads_at before) (reads_at after) stop (subst (λ (ts : List Table). StopsAmong s ts no_rows stop (reads_at before) (reads_at after)) (sym has.same) h)
+
+    pub past : (rows : TableRows) (stop : Stop) → AreAccepted s tables no_rows rows before.left after.left → StopsPast limits s rows stop → EndsIn stop
+    past rows stop read h = past-in s (reads_at before) (reads_at after) limits has.under rows stop (read-own rows before.left after.left read) h
 
     pub sized : {T : Type 0} (rows : TableRows) (r : Result T Stop) → AreAccepted s tables no_rows rows before.left after.left
-        → IfErr r (StopsPast limits s rows) → IfErr r (λ stop. StopsIn s stop before after)
-    sized rows r read h = IfErr-weaker r (StopsPast limits s rows) (λ stop. StopsIn s stop before after) (λ stop k. past rows stop read k) h
+        → IfErr r (StopsPast limits s rows) → IfErr r EndsIn
+    sized rows r read h = IfErr-weaker r (StopsPast limits s rows) EndsIn (λ stop k. past rows stop read k) h
 
     -- memory was wanting after some of the tables, before the next was read
     pub starved : (some : List Table) (t : Table) (others : List Table) (rows : TableRows) → tables ≡ some ++ t ∷ others
-        → AreAccepted s some no_rows rows before.left after.left → IsCutIn s before.left after.left
+        → AreAccepted s some no_rows rows before.left after.left → EndsIn Memory
     starved some t others rows are read =
         let reached = reached-then s t (λ _. IsBegun t) some (t ∷ others) no_rows rows before.left after.left after.left read
         (inl (refl, record { bytes = []; read = sym (before_left-empty t after.left) })) in

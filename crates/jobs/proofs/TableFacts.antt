@@ -40,7 +40,7 @@ use Rattle.dta_words.specs.declared.command.Command.TheVariants as command
 use Rattle.start_table.specs.declared.rows.TheConstants.{MOST_START_ROWS}
 use Rattle.demand.specs.declared.demand_rows.TheConstants.{MOST_DEMAND_CELLS}
 use Rattle.desk_io.specs.declared.transfers.TheConstants.{MOST_TABLE_BYTES}
-use Rattle.desk_io.specs.State.{DeskState}
+use Rattle.jobs.specs.Reading.{ReadState}
 use Rattle.jobs.specs.TableRows.{TableRows, net_of}
 use Rattle.jobs.specs.Inputs.{Auditing, Kind, inputs_by, inputs_of, kind_of}
 use Rattle.jobs.specs.Stops.{StopsAt, stop_of}
@@ -79,7 +79,7 @@ IsToldBy settings t rows bytes (refusal.Fault f) = (with_table settings rows t b
 IsToldBy settings t rows bytes refusal.Memory = Unit {0}
 
 -- reading stopped at a table by what its reader answered over the text that was read
-pub stop-at : (settings : Settings) (t : Table) (rows : TableRows) (bytes text : List ℕ) (before after : DeskState) (why : TableRefusal)
+pub stop-at : (settings : Settings) (t : Table) (rows : TableRows) (bytes text : List ℕ) (before after : ReadState) (why : TableRefusal)
     → IsRead t bytes before.left after.left → length bytes ≤ MOST_TABLE_BYTES → text ≡ bytes → IsToldBy settings t rows text why
     → StopsAt settings t rows (stop_of why) before after
 stop-at settings t rows bytes text before after (refusal.Fault f) read short same told =

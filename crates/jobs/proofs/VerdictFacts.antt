@@ -26,11 +26,12 @@ use Rattle.std.proofs.lemmas.List.Elements.{All-head, All-tail}
 use Rattle.scaled_demand.specs.Scales.{AreAllWithin, IsFirstTooMany, scaled}
 use Rattle.jobs.specs.TableRows.{TableRows, no_rows}
 use Rattle.jobs.specs.Limits.{AreAbove, Limits, first_above, loading_limits, scales_past, skim_entries, skim_limits, sweep_limits, vehicles_past}
-use Rattle.jobs.specs.Inputs.{Assigning, Auditing, FreeFlow, Kind, Skimming, Sweeping, inputs_by, kind_of, read_tables, source_of, tables_of}
-use Rattle.jobs.specs.Jobs.{IsAcceptedJob, JobRows}
+use Rattle.jobs.specs.Inputs.{Assigning, Auditing, FreeFlow, Kind, Skimming, Sweeping, inputs_by, kind_of, tables_of}
+use Rattle.jobs.specs.Reading.{ReadState, Reading, grid_left, read_tables, texts_for}
+use Rattle.jobs.specs.Jobs.{IsJobOf, JobRows}
 use Rattle.jobs.specs.Causes.{IsCause, IsPast}
 use Rattle.jobs.specs.Tables.{AreAccepted, AreTold, IsAccepted, IsFaulty, ReachedAmong, with_table}
-use Rattle.jobs.specs.Verdict.{Accepted, AreToldBy, Refused, Verdict, verdict_by, verdict_on, verdict_on_rows, verdict_past}
+use Rattle.jobs.specs.Verdict.{Accepted, AreToldBy, Refused, Verdict, verdict, verdict_by, verdict_on, verdict_on_rows, verdict_past}
 
 -- ---- what was read is what is told
 
@@ -301,34 +302,26 @@ distinct FreeFlow start = grind arith
 distinct k false = grind arith
 distinct k true = grind arith
 
-source-told : (c : Command) (start : Bool) (left : Left) (texts : Table → List ℕ) → AreTold (read_tables c start) left texts
-    → AreTold (tables_of c start) ((source_of c).left left) ((source_of c).texts texts)
-source-told (command.Demo n) false left texts h = (refl, (refl, (refl, (refl, tt))))
-source-told (command.Demo n) true left texts h = (refl, (refl, (refl, (refl, (refl, tt)))))
-source-told c start left texts h = h
+-- what was read of a command's tables, at the desk or of a grid, was told before
+record ReadOfTold (c : Command) (start : Bool) (texts : Table → List ℕ) (Part : ReadState → ReadState → Type 0) : Type 0 where
+  before : ReadState
+  after : ReadState
+  told : AreTold (tables_of c start) before.left (texts_for c texts)
+  part : Part before after
 
--- the texts that these settings read are told
-abbrev pub AreAllTold : Settings → Left → (Table → List ℕ) → Type 0
-AreAllTold s left texts = AreTold (tables_of s.command s.start) ((source_of s.command).left left) ((source_of s.command).texts texts)
+grid-told : (n : ℕ) (start : Bool) (texts : Table → List ℕ) → AreTold (tables_of (command.Demo n) start) (grid_left n) (texts_for (command.Demo n) texts)
+grid-told n false texts = (refl, (refl, (refl, (refl, tt))))
+grid-told n true texts = (refl, (refl, (refl, (refl, (refl, tt)))))
 
-pub all-told : (words : List (List ℕ)) (s : Settings) (left : Left) (texts : Table → List ℕ) → settings_of words ≡ Some s
-    → AreToldBy (settings_of words) left texts → AreAllTold s left texts
-all-told words s left texts e told =
-    source-told s.command s.start left texts (subst (λ (o : Option Settings). AreToldBy o left texts) e told)
-
-pub verdict-job : (s : Settings) (job : JobRows) (texts : Table → List ℕ) (before after : Left) → AreAllTold s before texts
-    → IsAcceptedJob s job before after → verdict_by (Some s) texts ≡ Accepted s job
-verdict-job s job texts before after told h =
-    on-all s (tables_of s.command s.start) ((source_of s.command).texts texts) no_rows h.part.rows ((source_of s.command).left before) h.rest
-    (verdict_on_rows s.command s) (distinct (kind_of s.command) s.start) told h.part.read
-    ∙ ap (λ (o : Option Refusal). verdict_past o s h.part.rows) ((on-limits (kind_of s.command)).0 s h.part.rows h.part.within) ∙ ap (Accepted s) (sym h.part.makes)
-
-verdict-on-past : (s : Settings) (r : Refusal) (texts : Table → List ℕ) (before after : Left) → AreTold (tables_of s.command s.start) before ((source_of s.command).texts texts)
-    → IsPast s r before after → verdict_by (Some s) texts ≡ Refused r
-verdict-on-past s r texts before after told h =
-    on-all s (tables_of s.command s.start) ((source_of s.command).texts texts) no_rows h.rows before after
-    (verdict_on_rows s.command s) (distinct (kind_of s.command) s.start) told h.read
-    ∙ ap (λ (o : Option Refusal). verdict_past o s h.rows) ((on-limits (kind_of s.command)).1 s h.rows r h.part)
+read-of-told : (c : Command) (start : Bool) (texts : Table → List ℕ) (Part : ReadState → ReadState → Type 0) (before after : ReadState)
+    → AreTold (read_tables c start) before.left texts → Reading c Part before after → ReadOfTold c start texts Part
+read-of-told (command.Demo n) start texts Part before after told h = record {
+  before = record { left = grid_left n; read_faults = 0 };
+  after = record { left = h.1; read_faults = 0 };
+  told = grid-told n start texts;
+  part = h.2;
+}
+read-of-told c start texts Part before after told h = record { before = before; after = after; told = told; part = h }
 
 -- a refusal whose cause the bytes of the tables show
 abbrev pub IsShown : Refusal → Type 0
@@ -341,23 +334,46 @@ IsShown (refusal.Vehicles line total) = ⊤
 IsShown (refusal.SkimPairs number) = ⊤
 IsShown (refusal.SweepCells links steps) = ⊤
 
-pub verdict-refused : (s : Settings) (r : Refusal) (texts : Table → List ℕ) (before after : Left) → IsShown r → AreAllTold s before texts
-    → IsCause s r before after → verdict_by (Some s) texts ≡ Refused r
-verdict-refused s refusal.Usage texts before after i told h = absurd i
-verdict-refused s (refusal.Read t) texts before after i told h = absurd i
-verdict-refused s (refusal.Table fault) texts before after i told h =
-    on-reached s (tables_of s.command s.start) fault.table (IsFaulty s fault fault.table) ((source_of s.command).texts texts) no_rows
-    ((source_of s.command).left before) h.rest (verdict_on_rows s.command s) (Refused (refusal.Table fault)) (distinct (kind_of s.command) s.start) told h.part
-    (λ others rows left turn e. on-faulty s fault fault.table others ((source_of s.command).texts texts) rows left h.rest (verdict_on_rows s.command s) turn e)
-verdict-refused s (refusal.LongTable t) texts before after i told h =
-    on-reached s (tables_of s.command s.start) t (λ _. IsLong t MOST_TABLE_BYTES) ((source_of s.command).texts texts) no_rows
-    ((source_of s.command).left before) h.rest (verdict_on_rows s.command s) (Refused (refusal.LongTable t)) (distinct (kind_of s.command) s.start) told h.part
-    (λ others rows left turn e. on-long s t others ((source_of s.command).texts texts) rows left h.rest (verdict_on_rows s.command s) turn e)
-verdict-refused s (refusal.Cells links steps) texts before after i told h =
-    verdict-on-past s (refusal.Cells links steps) texts ((source_of s.command).left before) h.rest told h.part
-verdict-refused s (refusal.Vehicles line total) texts before after i told h =
-    verdict-on-past s (refusal.Vehicles line total) texts ((source_of s.command).left before) h.rest told h.part
-verdict-refused s (refusal.SkimPairs number) texts before after i told h =
-    verdict-on-past s (refusal.SkimPairs number) texts ((source_of s.command).left before) h.rest told h.part
-verdict-refused s (refusal.SweepCells links steps) texts before after i told h =
-    verdict-on-past s (refusal.SweepCells links steps) texts ((source_of s.command).left before) h.rest told h.part
+module _ (s : Settings) (texts : Table → List ℕ) where
+  abbrev Told : (ReadState → ReadState → Type 0) → Type 0
+  Told Part = ReadOfTold s.command s.start texts Part
+
+  on-job : (job : JobRows) → Told (IsJobOf s job) → verdict_by (Some s) texts ≡ Accepted s job
+  on-job job h =
+      on-all s (tables_of s.command s.start) (texts_for s.command texts) no_rows h.part.rows h.before.left h.after.left
+      (verdict_on_rows s.command s) (distinct (kind_of s.command) s.start) h.told h.part.read
+      ∙ ap (λ (o : Option Refusal). verdict_past o s h.part.rows) ((on-limits (kind_of s.command)).0 s h.part.rows h.part.within) ∙ ap (Accepted s) (sym h.part.makes)
+
+  on-past : (r : Refusal) → Told (IsPast s r) → verdict_by (Some s) texts ≡ Refused r
+  on-past r h =
+      on-all s (tables_of s.command s.start) (texts_for s.command texts) no_rows h.part.rows h.before.left h.after.left
+      (verdict_on_rows s.command s) (distinct (kind_of s.command) s.start) h.told h.part.read
+      ∙ ap (λ (o : Option Refusal). verdict_past o s h.part.rows) ((on-limits (kind_of s.command)).1 s h.part.rows r h.part.part)
+
+  on-cause : (r : Refusal) → IsShown r → Told (IsCause s r) → verdict_by (Some s) texts ≡ Refused r
+  on-cause refusal.Usage i h = absurd i
+  on-cause (refusal.Read t) i h = absurd i
+  on-cause (refusal.Table fault) i h =
+      on-reached s (tables_of s.command s.start) fault.table (IsFaulty s fault fault.table) (texts_for s.command texts) no_rows
+      h.before.left h.after.left (verdict_on_rows s.command s) (Refused (refusal.Table fault)) (distinct (kind_of s.command) s.start) h.told h.part
+      (λ others rows left turn e. on-faulty s fault fault.table others (texts_for s.command texts) rows left h.after.left (verdict_on_rows s.command s) turn e)
+  on-cause (refusal.LongTable t) i h =
+      on-reached s (tables_of s.command s.start) t (λ _. IsLong t MOST_TABLE_BYTES) (texts_for s.command texts) no_rows
+      h.before.left h.after.left (verdict_on_rows s.command s) (Refused (refusal.LongTable t)) (distinct (kind_of s.command) s.start) h.told h.part
+      (λ others rows left turn e. on-long s t others (texts_for s.command texts) rows left h.after.left (verdict_on_rows s.command s) turn e)
+  on-cause (refusal.Cells links steps) i h = on-past (refusal.Cells links steps) h
+  on-cause (refusal.Vehicles line total) i h = on-past (refusal.Vehicles line total) h
+  on-cause (refusal.SkimPairs number) i h = on-past (refusal.SkimPairs number) h
+  on-cause (refusal.SweepCells links steps) i h = on-past (refusal.SweepCells links steps) h
+
+-- the verdict over words and bytes, by what was read
+module _ (words : List (List ℕ)) (s : Settings) (texts : Table → List ℕ) (before after : ReadState) (is : settings_of words ≡ Some s)
+    (told : AreToldBy (settings_of words) before.left texts) where
+  read-by : (Part : ReadState → ReadState → Type 0) → Reading s.command Part before after → ReadOfTold s.command s.start texts Part
+  read-by Part h = read-of-told s.command s.start texts Part before after (subst (λ (o : Option Settings). AreToldBy o before.left texts) is told) h
+
+  pub verdict-job : (job : JobRows) → Reading s.command (IsJobOf s job) before after → verdict words texts ≡ Accepted s job
+  verdict-job job h = ap (λ (o : Option Settings). verdict_by o texts) is ∙ on-job s texts job (read-by (IsJobOf s job) h)
+
+  pub verdict-refused : (r : Refusal) → IsShown r → Reading s.command (IsCause s r) before after → verdict words texts ≡ Refused r
+  verdict-refused r i h = ap (λ (o : Option Settings). verdict_by o texts) is ∙ on-cause s texts r i (read-by (IsCause s r) h)

@@ -3,7 +3,6 @@ use Rattle.std.specs.Prelude.{◌≡◌, ◌≤◌, ℕ, List, length, Option, R
 use Rattle.std.proofs.Common.{Vec}
 use Rattle.std.specs.declared.alloc.Global.{Global}
 use Rattle.desk_io.specs.declared.desk.Table.{Table}
-use Rattle.desk_io.specs.Desk.{Left}
 use Rattle.desk_io.specs.Transfers.{IsRead}
 use Rattle.net_core.specs.declared.rows.TurnRow.{TurnRow}
 use Rattle.dta_model.specs.declared.trip.DemandCell.{DemandCell}
@@ -14,6 +13,7 @@ use Rattle.desk_io.specs.declared.transfers.TheConstants.{MOST_TABLE_BYTES}
 use Rattle.dta_words.specs.declared.command.Settings.{Settings}
 use Rattle.desk_io.specs.State.{DeskState}
 use Rattle.jobs.specs.TableRows.{TableRows, road_rows}
+use Rattle.jobs.specs.Reading.{ReadState, reads_at}
 use Rattle.jobs.specs.Stops.{StopsAmong, StopsAt}
 use Rattle.jobs.specs.Tables.{AreAccepted, IsAccepted}
 use Rattle.jobs.specs.declared.stop.Stop.{Stop}
@@ -25,18 +25,18 @@ use Rattle.agent_table.specs.declared.rows.AgentRow.{AgentRow}
 
 -- a call that reads tables and does nothing else to a desk: what it gives where it is done, and
 -- where and why it stops
-pub record OnlyReads {T : Type 0} (Done : T → Left → Left → Type 0)
-    (Stopped : Stop → DeskState → DeskState → Type 0) (before after : DeskState)
+pub record OnlyReads {T : Type 0} (Done : T → ReadState → ReadState → Type 0)
+    (Stopped : Stop → ReadState → ReadState → Type 0) (before after : DeskState)
     (result : Result T Stop) : Type 0 where
-  pub done : IfOk result (λ x. Done x before.left after.left)
-  pub stops : IfErr result (λ stop. Stopped stop before after)
+  pub done : IfOk result (λ x. Done x (reads_at before) (reads_at after))
+  pub stops : IfErr result (λ stop. Stopped stop (reads_at before) (reads_at after))
   pub later : before.read_faults ≤ after.read_faults
   pub taken : after.taken ≡ before.taken
   pub puts : after.put_faults ≡ before.put_faults
 
 -- a table was read to its end, and has no more bytes than the limit
-pub record IsWhole (t : Table) (bytes : Vec ℕ Global) (before after : Left) : Type 0 where
-  pub read : IsRead t bytes.items before after
+pub record IsWhole (t : Table) (bytes : Vec ℕ Global) (before after : ReadState) : Type 0 where
+  pub read : IsRead t bytes.items before.left after.left
   pub short : length bytes.items ≤ MOST_TABLE_BYTES
 
 -- a call that reads and checks a table after these rows: it gives the rows with that table's, or
@@ -45,16 +45,16 @@ abbrev pub Accepts :
     {T : Type 0} → Settings → Table → TableRows → (T → TableRows) → DeskState → DeskState
     → Result T Stop → Type 0
 Accepts settings t rows more before after result =
-    OnlyReads (λ x. IsAccepted settings t rows (more x)) (StopsAt settings t rows)
-    before after result
+    OnlyReads (λ x from rest. IsAccepted settings t rows (more x) from.left rest.left)
+    (StopsAt settings t rows) before after result
 
 -- a call that reads and checks tables, one after the other: it gives their rows, or stopped at one
 abbrev pub AcceptsAll :
     {T : Type 0} → Settings → List Table → TableRows → (T → TableRows) → DeskState → DeskState
     → Result T Stop → Type 0
 AcceptsAll settings tables rows more before after result =
-    OnlyReads (λ x. AreAccepted settings tables rows (more x)) (StopsAmong settings tables rows)
-    before after result
+    OnlyReads (λ x from rest. AreAccepted settings tables rows (more x) from.left rest.left)
+    (StopsAmong settings tables rows) before after result
 
 -- the rows of nodes and links, those with turns, rows with those of a demand table, of a start
 -- table, of link times and of an agent table, and those that each loading has

@@ -1,13 +1,11 @@
 -- What the settings and the tables come to: the network and the trips of a run.
 use Rattle.std.specs.Prelude.{◌≡◌, ◌≤◌, ◌*◌, List, length}
-use Rattle.desk_io.specs.Desk.{Left}
 use Rattle.net_core.specs.Network.{IsNet}
 use Rattle.net_core.specs.declared.rows.NetRows.{NetRows}
 use Rattle.dta_model.specs.Release.{trips_of}
 use Rattle.dta_model.specs.declared.trip.DemandCell.{DemandCell}
 use Rattle.dta_model.specs.declared.trip.Trip.{Trip}
 use Rattle.demand.specs.DemandRows.{AreDemandCells}
-use Rattle.dta_words.specs.declared.command.Command.{Command}
 use Rattle.dta_words.specs.declared.command.Settings.{Settings}
 use Rattle.skims.specs.GivenTimes.{AreRowsOf}
 use Rattle.skims.specs.declared.time_rows.TimeRow.{TimeRow}
@@ -19,15 +17,9 @@ use Rattle.agent_table.specs.declared.rows.AgentRow.{AgentRow}
 use Rattle.start_table.specs.Starts.{AreStartRows}
 use Rattle.start_table.specs.declared.rows.StartRow.{StartRow}
 use Rattle.jobs.specs.TableRows.{TableRows, net_of, no_rows}
-use Rattle.jobs.specs.Inputs.{Sweeping, TakesTimes, inputs_of, kind_of, limits_of, source_of}
-use Rattle.jobs.specs.Inputs.{tables_of}
+use Rattle.jobs.specs.Inputs.{Sweeping, TakesTimes, inputs_of, kind_of, limits_of, tables_of}
+use Rattle.jobs.specs.Reading.{ReadState}
 use Rattle.jobs.specs.Tables.{AreAccepted}
-
--- the tables of a command were read one after the other as far as this says, with so much left
-pub record Reading (c : Command) (Part : Left → Left → Type 0) (before after : Left) : Type 0 where
-  pub rest : Left
-  pub leaves : (source_of c).leaves rest before after
-  pub part : Part ((source_of c).left before) rest
 
 -- the network of a run, its trips, the rows of its start table, its link times, the demand of a
 -- sweep and the agents of an audit; what a command doesn't take is empty
@@ -50,15 +42,11 @@ job_of s rows = record {
 }
 
 -- the tables were read one after the other and accepted, are within the limits, and make this job
-pub record IsJobOf (s : Settings) (job : JobRows) (before after : Left) : Type 0 where
+pub record IsJobOf (s : Settings) (job : JobRows) (before after : ReadState) : Type 0 where
   pub rows : TableRows
-  pub read : AreAccepted s (tables_of s.command s.start) no_rows rows before after
+  pub read : AreAccepted s (tables_of s.command s.start) no_rows rows before.left after.left
   pub within : (limits_of s.command).within s rows
   pub makes : job ≡ job_of s rows
-
--- the same of the desk of a run
-abbrev pub IsAcceptedJob : Settings → JobRows → Left → Left → Type 0
-IsAcceptedJob s job before after = Reading s.command (IsJobOf s job) before after
 
 -- what is true of the job of a sweep: its demand is that of a table, its network times its steps
 -- is not too much, and no scenario has too many vehicles

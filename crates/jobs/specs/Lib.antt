@@ -1,6 +1,7 @@
 pub mod TableRows
 pub mod Limits
 pub mod Inputs
+pub mod Reading
 pub mod Tables
 pub mod Jobs
 pub mod Verdict

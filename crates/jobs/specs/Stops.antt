@@ -4,7 +4,6 @@ use Rattle.desk_io.specs.declared.desk.Table.{Table}
 use Rattle.desk_io.specs.Transfers.{IsBegun, IsLong}
 use Rattle.row_reader.specs.declared.faults.TableRefusal.{TableRefusal}
 use Rattle.row_reader.specs.declared.faults.TableRefusal.TheVariants as table_refusal
-use Rattle.reports.specs.declared.refusal.Refusal.{Refusal}
 use Rattle.reports.specs.declared.refusal.Refusal.TheVariants as refusal
 use Rattle.desk_io.specs.declared.transfers.TheConstants.{MOST_TABLE_BYTES}
 use Rattle.dta_words.specs.declared.command.Settings.{Settings}
@@ -16,10 +15,9 @@ use Rattle.scaled_demand.specs.declared.fault.SweepFault.{SweepFault}
 use Rattle.scaled_demand.specs.declared.fault.SweepFault.TheVariants as sweep
 use Rattle.jobs.specs.TableRows.{TableRows}
 use Rattle.jobs.specs.Limits.{Limits}
-use Rattle.jobs.specs.Inputs.{tables_of}
-use Rattle.jobs.specs.Causes.{EndsForMemory, IsCause, IsCauseAmong, IsCutIn, ReadsFailed}
+use Rattle.jobs.specs.Causes.{EndsForMemory, IsCause, ReadsFailed}
+use Rattle.jobs.specs.Reading.{ReadState}
 use Rattle.jobs.specs.Tables.{IsFaulty, ReachedAmong}
-use Rattle.desk_io.specs.State.{DeskState}
 
 -- what a refused table stops
 abbrev pub stop_of : TableRefusal → Stop
@@ -37,7 +35,7 @@ stop_at_scale (sweep.TooMany scenario line total) = Refused (refusal.Vehicles li
 stop_at_scale sweep.Memory = Memory
 
 -- the reading stopped at a table, where these rows were accepted before
-abbrev pub StopsAt : Settings → Table → TableRows → Stop → DeskState → DeskState → Type 0
+abbrev pub StopsAt : Settings → Table → TableRows → Stop → ReadState → ReadState → Type 0
 StopsAt settings t rows Memory before after = IsBegun t before.left after.left
 StopsAt settings t rows (Refused refusal.Usage) before after = ⊥
 StopsAt settings t rows (Refused (refusal.Table fault)) before after =
@@ -52,7 +50,7 @@ StopsAt settings t rows (Refused (refusal.SkimPairs number)) before after = ⊥
 StopsAt settings t rows (Refused (refusal.SweepCells links steps)) before after = ⊥
 
 -- the reading of these tables ended in this stop, at one of them
-abbrev pub StopsAmong : Settings → List Table → TableRows → Stop → DeskState → DeskState → Type 0
+abbrev pub StopsAmong : Settings → List Table → TableRows → Stop → ReadState → ReadState → Type 0
 StopsAmong settings tables rows stop before after =
     (t : Table) × ReachedAmong settings tables t (λ rows left rest.
     StopsAt settings t rows stop (record before { left = left }) (record after { left = rest }))
@@ -71,18 +69,7 @@ StopsPast limits s rows (Refused (refusal.SweepCells links steps)) =
     limits.past s rows (refusal.SweepCells links steps)
 StopsPast limits s rows (Refused _) = ⊥
 
--- a count of failed reads rose where a table couldn't be read
-abbrev pub HasFault : Refusal → DeskState → DeskState → Type 0
-HasFault (refusal.Read t) before after = ReadsFailed before after
-HasFault _ before after = ⊤
-
--- the reading of a command's tables ended in this stop, where each of them can fail to be read
-abbrev pub StopsIn : Settings → Stop → DeskState → DeskState → Type 0
-StopsIn s Memory before after = IsCutIn s before.left after.left
-StopsIn s (Refused r) before after =
-    IsCauseAmong (tables_of s.command s.start) s r before.left after.left × HasFault r before after
-
--- a run of these settings ended in this stop
-abbrev pub Stops : Settings → Stop → DeskState → DeskState → Type 0
-Stops s Memory before after = EndsForMemory s before.left after.left
-Stops s (Refused r) before after = IsCause s r before.left after.left × HasFault r before after
+-- the reading of a command's tables ended in this stop
+abbrev pub Stops : Settings → Stop → ReadState → ReadState → Type 0
+Stops s Memory before after = EndsForMemory s before after
+Stops s (Refused r) before after = IsCause s r before after

@@ -11,7 +11,8 @@ use Rattle.dta_words.specs.Grammar.{settings_of}
 use Rattle.dta_words.specs.declared.command.Command.{Command}
 use Rattle.dta_words.specs.declared.command.Settings.{Settings}
 use Rattle.jobs.specs.TableRows.{TableRows, no_rows}
-use Rattle.jobs.specs.Inputs.{limits_of, read_tables, source_of, tables_of}
+use Rattle.jobs.specs.Inputs.{limits_of, tables_of}
+use Rattle.jobs.specs.Reading.{read_tables, texts_for}
 use Rattle.jobs.specs.Jobs.{JobRows, job_of}
 use Rattle.jobs.specs.Tables.{AreTold, with_table}
 
@@ -47,7 +48,7 @@ verdict_on_rows c s rows = verdict_past ((limits_of c).first_past s rows) s rows
 abbrev pub verdict_by : Option Settings → (Table → List ℕ) → Verdict
 verdict_by None texts = Refused refusal.Usage
 verdict_by (Some s) texts =
-    verdict_on s (tables_of s.command s.start) ((source_of s.command).texts texts) no_rows
+    verdict_on s (tables_of s.command s.start) (texts_for s.command texts) no_rows
     (verdict_on_rows s.command s)
 
 -- the first cause in the order of the work: the words; each table, too long or with a first fault,

@@ -1,6 +1,5 @@
 // The job of an assignment: its network, its trips, and the rows of its start table.
 ghost use Rattle.std.specs.Prelude.{◌≡◌, ◌≤◌, ◌*◌, length, IfOk, IfErr, OnOk};
-ghost use Rattle.desk_io.specs.Desk.{Left};
 ghost use Rattle.demand.specs.DemandRows.{AreDemandCells};
 ghost use Rattle.dta_model.specs.Release.{trips_of};
 ghost use Rattle.dta_words.specs.Ranges.{AreSettings};
@@ -17,8 +16,9 @@ ghost use Rattle.jobs.specs.Calls.{OnlyReads, rows_in_tables, with_start_rows};
 ghost use Rattle.jobs.specs.TableRows.{TableRows};
 ghost use Rattle.jobs.specs.Limits.{HasRoom, loading_limits};
 ghost use Rattle.jobs.specs.Inputs.{Assigns};
-ghost use Rattle.jobs.specs.Jobs.{IsAcceptedJob, IsJob, IsJobOf, job_of as job_of_rows, traffic_of};
-ghost use Rattle.jobs.specs.Stops.{Stops, StopsIn, StopsPast};
+ghost use Rattle.jobs.specs.Jobs.{IsJob, IsJobOf, job_of as job_of_rows, traffic_of};
+ghost use Rattle.jobs.specs.Reading.{Reading};
+ghost use Rattle.jobs.specs.Stops.{Stops, StopsPast};
 ghost use Rattle.jobs.specs.Kinds.{IsFor, assign_rows, rows_in_job};
 
 use crate::job::Job;
@@ -139,7 +139,7 @@ pub(crate) fn accept_tables<D: Desk>(
     requires settings { AreSettings settings.now }
     requires command { Assigns settings.now.command }
     ensures reads { OnlyReads (λ job. IsJobOf settings.now (rows_in_job job))
-        (StopsIn settings.now) (D.state desk.old) (D.state desk.new) result }
+        (Stops settings.now) (D.state desk.old) (D.state desk.new) result }
     ensures sound { IfOk result (λ job. IsJob settings.now (rows_in_job job)) }
     ensures own { IfOk result (IsFor settings.now.command) }
 {
@@ -156,12 +156,11 @@ pub(crate) fn accept_tables<D: Desk>(
 pub(crate) fn accept_grid(alloc: Global, settings: &Settings, n: u32) -> Result<Job, Stop>
     requires settings { AreSettings settings.now }
     requires command { settings.now.command ≡ command.Demo n }
-    ensures job { (left : Left)
-        → IfOk result (λ job. IsAcceptedJob settings.now (rows_in_job job) left left) }
+    ensures reads { let reading = Reading settings.now.command in
+        (desk : DeskState) → OnlyReads (λ job. reading (IsJobOf settings.now (rows_in_job job)))
+        (λ stop. reading (Stops settings.now stop)) desk desk result }
     ensures sound { IfOk result (λ job. IsJob settings.now (rows_in_job job)) }
     ensures own { IfOk result (IsFor settings.now.command) }
-    ensures stops { (before after : DeskState) → after.left ≡ before.left
-        → IfErr result (λ s. Stops settings.now s before after) }
 {
     match grid(alloc, n) {
         Ok(texts) => {

@@ -4,7 +4,7 @@ ghost use Rattle.dta_words.specs.Ranges.{AreSettings};
 ghost use Rattle.jobs.specs.Calls.{OnlyReads};
 ghost use Rattle.jobs.specs.Inputs.{Auditing, kind_of};
 ghost use Rattle.jobs.specs.Jobs.{IsJob, IsJobOf};
-ghost use Rattle.jobs.specs.Stops.{StopsIn};
+ghost use Rattle.jobs.specs.Stops.{Stops};
 ghost use Rattle.jobs.specs.Kinds.{IsFor, rows_in_job};
 
 use crate::assign_job::trips_within;
@@ -42,7 +42,7 @@ pub(crate) fn accept_audit<D: Desk>(
     requires settings { AreSettings settings.now }
     requires kind { kind_of settings.now.command ≡ Auditing }
     ensures reads { OnlyReads (λ job. IsJobOf settings.now (rows_in_job job))
-        (StopsIn settings.now) (D.state desk.old) (D.state desk.new) result }
+        (Stops settings.now) (D.state desk.old) (D.state desk.new) result }
     ensures sound { IfOk result (λ job. IsJob settings.now (rows_in_job job)) }
     ensures own { IfOk result (IsFor settings.now.command) }
 {

@@ -3,8 +3,9 @@ ghost use Rattle.std.specs.Prelude.{◌≡◌, IfOk};
 ghost use Rattle.dta_words.specs.Ranges.{AreSettings};
 ghost use Rattle.jobs.specs.Calls.{OnlyReads};
 ghost use Rattle.jobs.specs.Inputs.{FreeFlow, kind_of};
-ghost use Rattle.jobs.specs.Jobs.{IsAcceptedJob, IsJob, IsJobOf};
-ghost use Rattle.jobs.specs.Stops.{Stops, StopsIn};
+ghost use Rattle.jobs.specs.Jobs.{IsJob, IsJobOf};
+ghost use Rattle.jobs.specs.Reading.{Reading};
+ghost use Rattle.jobs.specs.Stops.{Stops};
 ghost use Rattle.jobs.specs.Kinds.{IsFor, rows_in_job};
 
 use crate::assign_job::{AssignJob, accept_grid, accept_tables};
@@ -39,7 +40,7 @@ fn accept_free<D: Desk>(alloc: Global, desk: &mut D, settings: &Settings) -> Res
     requires settings { AreSettings settings.now }
     requires kind { kind_of settings.now.command ≡ FreeFlow }
     ensures reads { OnlyReads (λ job. IsJobOf settings.now (rows_in_job job))
-        (StopsIn settings.now) (D.state desk.old) (D.state desk.new) result }
+        (Stops settings.now) (D.state desk.old) (D.state desk.new) result }
     ensures sound { IfOk result (λ job. IsJob settings.now (rows_in_job job)) }
     ensures own { IfOk result (IsFor settings.now.command) }
 {
@@ -54,8 +55,9 @@ fn accept_free<D: Desk>(alloc: Global, desk: &mut D, settings: &Settings) -> Res
 /// scenario in turn, or of a skim's entries.
 pub fn accept<D: Desk>(alloc: Global, desk: &mut D, settings: &Settings) -> Result<Job, Stop>
     requires settings { AreSettings settings.now }
-    ensures reads { OnlyReads (λ job. IsAcceptedJob settings.now (rows_in_job job))
-        (Stops settings.now) (D.state desk.old) (D.state desk.new) result }
+    ensures reads { let reading = Reading settings.now.command in
+        OnlyReads (λ job. reading (IsJobOf settings.now (rows_in_job job)))
+        (λ stop. reading (Stops settings.now stop)) (D.state desk.old) (D.state desk.new) result }
     ensures sound { IfOk result (λ job. IsJob settings.now (rows_in_job job)) }
     ensures own { IfOk result (IsFor settings.now.command) }
 {

@@ -6,7 +6,7 @@ ghost use Rattle.jobs.specs.TableRows.{TableRows, net_of};
 ghost use Rattle.jobs.specs.Limits.{skim_limits};
 ghost use Rattle.jobs.specs.Inputs.{Skimming, kind_of};
 ghost use Rattle.jobs.specs.Jobs.{IsJob, IsJobOf};
-ghost use Rattle.jobs.specs.Stops.{StopsIn, StopsPast};
+ghost use Rattle.jobs.specs.Stops.{Stops, StopsPast};
 ghost use Rattle.jobs.specs.Kinds.{IsFor, rows_in_job};
 
 use crate::job::Job;
@@ -63,7 +63,7 @@ pub(crate) fn accept_skim<D: Desk>(
     requires settings { AreSettings settings.now }
     requires kind { kind_of settings.now.command ≡ Skimming }
     ensures reads { OnlyReads (λ job. IsJobOf settings.now (rows_in_job job))
-        (StopsIn settings.now) (D.state desk.old) (D.state desk.new) result }
+        (Stops settings.now) (D.state desk.old) (D.state desk.new) result }
     ensures sound { IfOk result (λ job. IsJob settings.now (rows_in_job job)) }
     ensures own { IfOk result (IsFor settings.now.command) }
 {

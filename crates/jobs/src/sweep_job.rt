@@ -9,7 +9,7 @@ ghost use Rattle.jobs.specs.TableRows.{TableRows};
 ghost use Rattle.jobs.specs.Limits.{sweep_limits};
 ghost use Rattle.jobs.specs.Inputs.{Sweeping, kind_of};
 ghost use Rattle.jobs.specs.Jobs.{IsJob, IsJobOf, job_of as job_of_rows};
-ghost use Rattle.jobs.specs.Stops.{StopsIn, StopsPast};
+ghost use Rattle.jobs.specs.Stops.{Stops, StopsPast};
 ghost use Rattle.jobs.specs.Kinds.{IsFor, rows_in_job};
 
 use crate::job::Job;
@@ -87,7 +87,7 @@ pub(crate) fn accept_sweep<D: Desk>(
     requires settings { AreSettings settings.now }
     requires kind { kind_of settings.now.command ≡ Sweeping }
     ensures reads { OnlyReads (λ job. IsJobOf settings.now (rows_in_job job))
-        (StopsIn settings.now) (D.state desk.old) (D.state desk.new) result }
+        (Stops settings.now) (D.state desk.old) (D.state desk.new) result }
     ensures sound { IfOk result (λ job. IsJob settings.now (rows_in_job job)) }
     ensures own { IfOk result (IsFor settings.now.command) }
 {

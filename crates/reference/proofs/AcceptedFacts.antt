@@ -39,7 +39,8 @@ use Rattle.dta_words.specs.Ranges.{AreSettings}
 use Rattle.dta_words.specs.declared.command.Settings.{Settings}
 use Rattle.jobs.specs.TableRows.{TableRows, net_of, no_rows, road_rows, start_tables}
 use Rattle.jobs.specs.Limits.{first_above, loading_limits, scales_past, vehicles_past}
-use Rattle.jobs.specs.Inputs.{Assigning, Auditing, FreeFlow, Kind, Skimming, Sweeping, inputs_by, inputs_of, kind_of, source_of}
+use Rattle.jobs.specs.Inputs.{Assigning, Auditing, FreeFlow, Kind, Skimming, Sweeping, inputs_by, inputs_of, kind_of}
+use Rattle.jobs.specs.Reading.{texts_for}
 use Rattle.jobs.specs.Jobs.{IsJob, IsSweepJob, JobRows, job_of}
 use Rattle.jobs.specs.Tables.{turns_of, with_table}
 use Rattle.jobs.specs.Verdict.{Accepted, Refused, Verdict, after_table, verdict, verdict_by, verdict_on, verdict_past}
@@ -324,7 +325,7 @@ by-kind Auditing s is in_range texts given job e = audit s in_range given job te
 by-settings : (o : Option Settings) (texts : Table → List ℕ) (given : Settings) (job : JobRows) → ((s : Settings) → o ≡ Some s → AreSettings s)
     → verdict_by o texts ≡ Accepted given job → IsAccepted given job
 by-settings None texts given job in_range e = absurd cc
-by-settings (Some s) texts given job in_range e = by-kind (kind_of s.command) s refl (in_range s refl) ((source_of s.command).texts texts) given job e
+by-settings (Some s) texts given job in_range e = by-kind (kind_of s.command) s refl (in_range s refl) (texts_for s.command texts) given job e
 
 pub accepted_are_sound : (words : List (List ℕ)) (texts : Table → List ℕ) (s : Settings) (job : JobRows) → verdict words texts ≡ Accepted s job → IsAccepted s job
 accepted_are_sound words texts s job e = by-settings (settings_of words) texts s job (λ given is. settings_in_range words given is) e

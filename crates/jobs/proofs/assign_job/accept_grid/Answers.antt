@@ -1,15 +1,19 @@
 use Rattle.std.proofs.Common.{inl, refl, rules}
-use Rattle.std.proofs.lemmas.Result.{IfErr-weaker}
-use Rattle.jobs.specs.Causes.{IsCutIn}
-use Rattle.jobs.specs.Stops.{Stops, StopsIn}
-use Rattle.jobs.proofs.JobFacts.{grid-reading, grid-stops}
+use Rattle.jobs.specs.Causes.{EndsForMemory}
+use Rattle.jobs.specs.Kinds.{rows_in_job}
+use Rattle.jobs.specs.Reading.{grid_left}
+use Rattle.jobs.proofs.JobFacts.{grid-reading, grid-reads}
 use Rattle.jobs.proofs.assign_job.accept_grid.Goals as goal
 
-pub returns-in-Ok-clause-stops : goal.returns-in-Ok-clause-stops
-returns-in-Ok-clause-stops c = λ before after same.
-    IfErr-weaker c.accept_tables.result (λ stop. StopsIn c.args.settings.now stop _ _) (λ stop. Stops c.args.settings.now stop before after)
-    (λ stop h. grid-stops c.args.settings.now c.args.n c.requires.command stop _ _ before after (search rules) refl refl same h) c.accept_tables.ensures.reads.stops
+pub returns-in-Ok-clause-reads : goal.returns-in-Ok-clause-reads
+returns-in-Ok-clause-reads c = λ desk.
+    grid-reads c.args.settings.now c.args.n c.requires.command desk rows_in_job c.accept_tables.result _ _ (search rules) refl refl c.accept_tables.ensures.reads
 
-pub returns-in-Err-Memory-clause-stops : goal.returns-in-Err-Memory-clause-stops
-returns-in-Err-Memory-clause-stops c = λ before after same.
-    grid-reading c.args.settings.now c.args.n c.requires.command (IsCutIn c.args.settings.now) _ before.left after.left same (inl refl)
+pub returns-in-Err-Memory-clause-reads : goal.returns-in-Err-Memory-clause-reads
+returns-in-Err-Memory-clause-reads c = λ desk. record {
+  done = tt;
+  stops = grid-reading c.args.settings.now c.args.n c.requires.command desk (EndsForMemory c.args.settings.now) (grid_left c.args.n) (inl refl);
+  later = search rules;
+  taken = refl;
+  puts = refl;
+}

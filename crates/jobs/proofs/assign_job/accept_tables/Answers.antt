@@ -37,7 +37,7 @@ returns-clause-reads g c =
     let r = c.in_ok-tables.ensures.reads in
     let before = g.D.Desk.state c.args.desk.now in
     let after = g.D.Desk.state c.if-settings.desk in
-    let all : OnlyReads {T = List StartRow} (λ start. AreAccepted s (loading_tables s.start) no_rows (with_start_rows rows start)) (λ stop left rest. ⊤)
+    let all : OnlyReads {T = List StartRow} (λ start from rest. AreAccepted s (loading_tables s.start) no_rows (with_start_rows rows start) from.left rest.left) (λ stop from rest. ⊤)
     before after (Ok c.if-settings.start) = elim c.if-settings.branch [
       | then-settings+in_ok-start w ↦
           let t = w.in_ok-start.ensures.reads s rows (c.requires.settings.start w.if-settings.true) in
