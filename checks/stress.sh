@@ -1,9 +1,10 @@
 #!/bin/sh
 # stress.sh PROGRAM [RUNS]: runs loadings by workers again and again. For each number of workers
-# from 1 to 16 so many runs (200 where none is said) of a ring with storage, by spatial queues, and
-# of `demo 6 --iterations 3`, first one after another and then by four such loops side by side. Each
-# run must end within a minute with the bytes of the run with --plain. Prints the seconds that the
-# runs by each number of workers took. Ends with 0 where all held.
+# from 1 to 16 so many runs (200 where none is said) of a jammed ring with storage, by spatial
+# queues, of `demo 6 --iterations 3` and of `demo 14`: first one after another, then by four such
+# loops side by side, then with all threads on one processor, where taskset is found. Each run must
+# end within a minute with the bytes of the run with --plain. Prints the seconds that the runs by
+# each number of workers took. Ends with 0 where all held.
 checks=$(dirname "$(readlink -f "$0")")
 more='[RUNS]'
 . "$checks/begin.sh"
@@ -28,23 +29,33 @@ make_net() {
     } >demand.csv
 }
 
-# A run over the net in the current folder, and a demonstration, with these options; prints what
-# they write.
-both() {
-    timeout 60 "$program" assign --period 40 --horizon 300 --iterations 2 --queue spatial "$@" &&
-        cat agent.csv link_performance.csv gap.csv &&
-        timeout 60 "$program" assign --period 40 --horizon 300 --iterations 2 --queue spatial \
-            --costs trips "$@" &&
-        cat agent.csv link_performance.csv origin_wait.csv gap.csv &&
-        timeout 60 "$program" demo 6 --iterations 3 "$@"
+# The words before each run: none, or those that keep it on one processor.
+on=
+
+# One run with these words.
+run_once() {
+    # shellcheck disable=SC2086
+    $on timeout 60 "$program" "$@"
 }
 
-# So many runs of both by so many workers, in the current folder, all like the plain ones.
+# Runs over the net in the current folder, and two demonstrations, with these options; prints what
+# they write.
+all() {
+    run_once assign --period 40 --horizon 300 --iterations 2 --queue spatial "$@" &&
+        cat agent.csv link_performance.csv gap.csv &&
+        run_once assign --period 40 --horizon 300 --iterations 2 --queue spatial \
+            --costs trips "$@" &&
+        cat agent.csv link_performance.csv origin_wait.csv gap.csv &&
+        run_once demo 6 --iterations 3 "$@" &&
+        run_once demo 14 "$@"
+}
+
+# So many runs of all by so many workers, in the current folder, all like the plain ones.
 runs_by() {
     run=0
     while [ $run -lt "$2" ]; do
         run=$((run + 1))
-        both --workers "$1" >now || {
+        all --workers "$1" >now || {
             echo "run $run by $1 workers failed or didn't end within a minute"
             return 1
         }
@@ -68,7 +79,7 @@ loop() {
 
 mkdir "$folder/net"
 make_net "$folder/net"
-both --plain >"$folder/plain" || exit 1
+all --plain >"$folder/plain" || exit 1
 echo "one loop, $runs runs with each number of workers:"
 loop alone "$runs" || exit 1
 echo "four loops side by side:"
@@ -80,4 +91,9 @@ cat "$folder/said_1"
 for side in 1 2 3 4; do
     [ "$(cat "$folder/ended_$side")" = 0 ] || { cat "$folder/said_$side"; exit 1; }
 done
+if command -v taskset >/dev/null; then
+    echo "one loop on one processor:"
+    on='taskset -c 0'
+    loop one_processor "$runs" || exit 1
+fi
 echo "one set of bytes, and none hung"
